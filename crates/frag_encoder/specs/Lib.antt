@@ -1,3 +1,4 @@
 pub mod Encoding
+pub mod Fragments
 pub mod Laws
 pub mod WorkedFiles

@@ -1,8 +1,9 @@
 //! A file cut into pieces, and its fragments.
 
-ghost use Rattle.std.specs.Prelude.{◌≡◌, ◌↔◌, ◌+◌, ◌-◌, ◌*◌, ◌/◌, ◌^◌, ◌<◌, ◌≤◌, ◌++◌, length, take, drop, replicate, Err, IsOk, OnOk, OnErr, IfOk};
-ghost use Rattle.frag_model.specs.Fragments.{draws_of, line_of, pieces_at, xor_all};
-ghost use Rattle.frag_encoder.specs.Encoding.{Encoding, IsBadSize, nb_frag_of, padding_of, filled, pieces_of, data_of, sums_of};
+ghost use Rattle.std.specs.Prelude.{◌≡◌, ◌↔◌, ◌+◌, ◌*◌, ◌/◌, ◌^◌, ◌<◌, ◌≤◌, ◌++◌, length, replicate, Err, OnOk, OnErr, IfOk};
+ghost use Rattle.parity_lines.specs.Counts.{IsBlankOf};
+ghost use Rattle.frag_encoder.specs.Encoding.{Encoding, IsBadSize, nb_frag_of, padding_of};
+ghost use Rattle.frag_encoder.specs.Fragments.{CountsWork, GivesFragment, IsWritten, MayWrite};
 
 use crate::answers::{Beyond, EncoderError};
 use crate::xoring::{piece_at, xor_line};
@@ -93,14 +94,7 @@ impl Encoder {
     /// the pieces in the line of coded fragment `n` (TS004-1.0.0). `Beyond`, with `out` as it was, comes exactly where `n` is 0
     /// or more than 8,380 above the number of pieces.
     pub fn fragment(&self, n: u16, out: &mut ArrayVec<u8, MAX_FRAGMENT>) -> Result<(), Beyond>
-        ensures within { IsOk result ↔ ((1 ≤ n)
-            × (n ≤ nb_frag_of (length self.now.file) self.now.frag_size + MAX_PARITY_INDEX)) }
-        ensures part { OnOk result (out.new.items ≡ data_of self.now.file self.now.frag_size n) }
-        ensures size { OnOk result (length out.new.items ≡ self.now.frag_size) }
-        ensures piece { n ≤ nb_frag_of (length self.now.file) self.now.frag_size
-            → OnOk result (out.new.items ≡ take self.now.frag_size
-            (drop ((n - 1) * self.now.frag_size) (filled self.now.file self.now.frag_size))) }
-        ensures beyond { OnErr result (out.new ≡ out.old) }
+        ensures { GivesFragment self.now.file self.now.frag_size n out.old out.new result }
     {
         self.fragment_over::<Brand, Brand>(n, out, Blank::new(1), Blank::new(1))
     }
@@ -112,20 +106,9 @@ impl Encoder {
         no_draws: Blank,
         no_sums: Blank,
     ) -> Result<(), Beyond>
-        requires draws_name { no_draws.name ≡ L.name }
-        requires draws_parts { no_draws.parts ≡ L.parts }
-        requires draws_counted { 0 < no_draws.parts }
-        requires sums_name { no_sums.name ≡ M.name }
-        requires sums_parts { no_sums.parts ≡ M.parts }
-        requires sums_counted { 0 < no_sums.parts }
-        ensures within { IsOk result ↔ ((1 ≤ n)
-            × (n ≤ nb_frag_of (length self.now.file) self.now.frag_size + MAX_PARITY_INDEX)) }
-        ensures part { OnOk result (out.new.items ≡ data_of self.now.file self.now.frag_size n) }
-        ensures size { OnOk result (length out.new.items ≡ self.now.frag_size) }
-        ensures piece { n ≤ nb_frag_of (length self.now.file) self.now.frag_size → OnOk result
-            (out.new.items ≡ take self.now.frag_size
-            (drop ((n - 1) * self.now.frag_size) (filled self.now.file self.now.frag_size))) }
-        ensures beyond { OnErr result (out.new ≡ out.old) }
+        requires draws { IsBlankOf L.name L.parts no_draws.name no_draws.parts }
+        requires sums { IsBlankOf M.name M.parts no_sums.name no_sums.parts }
+        ensures { GivesFragment self.now.file self.now.frag_size n out.old out.new result }
     {
         let mut draws = Steps::<L>::new(no_draws);
         let mut sums = Steps::<M>::new(no_sums);
@@ -141,18 +124,9 @@ impl Encoder {
         draws: &mut Steps<L>,
         sums: &mut Steps<M>,
     ) -> Result<(), Beyond>
-        ensures within { IsOk result ↔ ((1 ≤ n)
-            × (n ≤ nb_frag_of (length self.now.file) self.now.frag_size + MAX_PARITY_INDEX)) }
-        ensures part { OnOk result (out.new.items ≡ data_of self.now.file self.now.frag_size n) }
-        ensures size { OnOk result (length out.new.items ≡ self.now.frag_size) }
-        ensures piece { n ≤ nb_frag_of (length self.now.file) self.now.frag_size → OnOk result
-            (out.new.items ≡ take self.now.frag_size
-            (drop ((n - 1) * self.now.frag_size) (filled self.now.file self.now.frag_size))) }
-        ensures beyond { OnErr result (out.new ≡ out.old) }
-        ensures draws { OnOk result (draws.new
-            ≡ draws.old + draws_of (nb_frag_of (length self.now.file) self.now.frag_size) n) }
-        ensures sums { OnOk result (sums.new
-            ≡ sums.old + sums_of (nb_frag_of (length self.now.file) self.now.frag_size) n) }
+        ensures fragment { GivesFragment self.now.file self.now.frag_size n out.old out.new result }
+        ensures counted { OnOk result (CountsWork (nb_frag_of (length self.now.file)
+            self.now.frag_size) n draws.old draws.new sums.old sums.new) }
         ensures few_draws { draws.new ≤ draws.old
             + 25 * (nb_frag_of (length self.now.file) self.now.frag_size / 2) }
         ensures few_sums { sums.new
@@ -203,18 +177,9 @@ fn write_data<L: Ledger, M: Ledger>(
     draws: &mut Steps<L>,
     sums: &mut Steps<M>,
 )
-    requires some { 1 ≤ nb_frag }
-    requires most { nb_frag ≤ MAX_PIECES }
-    requires first { 1 ≤ n }
-    requires last { n ≤ nb_frag + MAX_PARITY_INDEX }
-    requires size { length part.old ≡ size }
-    requires fits { size ≤ MAX_FRAGMENT }
-    requires bytes { length bytes.now ≡ nb_frag * size }
-    ensures whole { part.new
-        ≡ xor_all size (pieces_at (line_of nb_frag n) (pieces_of nb_frag size bytes.now)) }
-    ensures piece { n ≤ nb_frag → part.new ≡ take size (drop ((n - 1) * size) bytes.now) }
-    ensures draws { draws.new ≡ draws.old + draws_of nb_frag n }
-    ensures sums { sums.new ≡ sums.old + sums_of nb_frag n }
+    requires { MayWrite n nb_frag size bytes.now part.old }
+    ensures written { IsWritten n nb_frag size bytes.now part.new }
+    ensures counted { CountsWork nb_frag n draws.old draws.new sums.old sums.new }
     ensures few_draws { draws.new ≤ draws.old + 25 * (nb_frag / 2) }
     ensures few_sums { sums.new ≤ sums.old + nb_frag / 2 }
 {

@@ -1,9 +1,8 @@
 //! The columns of a line, drawn from the register.
 
-ghost use Rattle.std.specs.Prelude.{◌≡◌, ◌↔◌, ℕ, ◌+◌, ◌*◌, ◌/◌, ◌%◌, ◌^◌, ◌<◌, ◌≤◌, length, slice_index, All, IsBitSet};
-ghost use Rattle.frag_model.specs.Members.{In};
-ghost use Rattle.frag_model.specs.Parity.{prbs23, columns_drawn, line, draws};
-ghost use Rattle.parity_lines.specs.Words.{words_number};
+ghost use Rattle.std.specs.Prelude.{◌≡◌, ℕ, ◌+◌, ◌*◌, ◌/◌, ◌%◌, ◌^◌, ◌<◌, ◌≤◌, length};
+ghost use Rattle.frag_model.specs.Parity.{prbs23};
+ghost use Rattle.parity_lines.specs.Lines.{IsDrawn, IsLine};
 
 use crate::residues::{reciprocal_of, residue};
 use crate::steps::Steps;
@@ -41,12 +40,8 @@ pub fn line<L: Ledger>(n: u16, cols: u16, out: &mut [u64], steps: &mut Steps<L>)
     requires some { 1 ≤ cols }
     requires most { cols ≤ MAX_PIECES }
     requires room { cols ≤ 64 * length out.old }
-    ensures line { words_number out.new ≡ line n cols }
-    ensures columns { (c : ℕ) → IsBitSet (slice_index out.new (c / 64)) (c % 64)
-        ↔ In c (columns_drawn n cols) }
-    ensures words { All (λ w. w < 2 ^ 64) out.new }
-    ensures draws { steps.new ≡ steps.old + draws n cols }
-    ensures few { steps.new ≤ steps.old + 25 * (cols / 2) }
+    ensures line { IsLine n cols out.new }
+    ensures drawn { IsDrawn n cols steps.old steps.new }
 {
     out.fill(0);
     let half = cols / 2;

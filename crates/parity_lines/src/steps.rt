@@ -1,6 +1,7 @@
 //! A count of steps that exists in contracts alone.
 
 ghost use Rattle.std.specs.Prelude.{◌≡◌, ℕ, ◌+◌, ◌<◌};
+ghost use Rattle.parity_lines.specs.Counts.{IsBlankOf};
 
 use std::marker::Model;
 use std::sync::ledger::{Blank, Book, Ledger, Share};
@@ -23,9 +24,7 @@ impl<L: Ledger> Model for Steps<L> {
 impl<L: Ledger> Steps<L> {
     /// A count of no steps yet, of the ledger that the blank one becomes.
     pub fn new(blank: Blank) -> Steps<L>
-        requires name { blank.name ≡ L.name }
-        requires parts { blank.parts ≡ L.parts }
-        requires some { 0 < blank.parts }
+        requires { IsBlankOf L.name L.parts blank.name blank.parts }
         ensures { result ≡ 0 }
     {
         let (book, share) = blank.open::<L>();

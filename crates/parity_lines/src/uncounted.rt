@@ -1,9 +1,8 @@
 //! Lines for a caller that counts nothing.
 
-ghost use Rattle.std.specs.Prelude.{◌≡◌, ◌↔◌, ℕ, ◌*◌, ◌/◌, ◌%◌, ◌^◌, ◌<◌, ◌≤◌, length, slice_index, All, IsBitSet};
-ghost use Rattle.frag_model.specs.Members.{In};
-ghost use Rattle.frag_model.specs.Parity.{columns_drawn, line};
-ghost use Rattle.parity_lines.specs.Words.{words_number};
+ghost use Rattle.std.specs.Prelude.{◌*◌, ◌≤◌, length};
+ghost use Rattle.parity_lines.specs.Counts.{IsBlankOf};
+ghost use Rattle.parity_lines.specs.Lines.{IsLine};
 
 use crate::lines::line;
 use crate::steps::Steps;
@@ -18,10 +17,7 @@ pub fn line_uncounted(n: u16, cols: u16, out: &mut [u64])
     requires some { 1 ≤ cols }
     requires most { cols ≤ MAX_PIECES }
     requires room { cols ≤ 64 * length out.old }
-    ensures line { words_number out.new ≡ line n cols }
-    ensures columns { (c : ℕ) → IsBitSet (slice_index out.new (c / 64)) (c % 64)
-        ↔ In c (columns_drawn n cols) }
-    ensures words { All (λ w. w < 2 ^ 64) out.new }
+    ensures { IsLine n cols out.new }
 {
     line_over::<Brand>(n, cols, out, Blank::new(1))
 }
@@ -32,13 +28,8 @@ fn line_over<L: Ledger>(n: u16, cols: u16, out: &mut [u64], blank: Blank)
     requires some { 1 ≤ cols }
     requires most { cols ≤ MAX_PIECES }
     requires room { cols ≤ 64 * length out.old }
-    requires name { blank.name ≡ L.name }
-    requires parts { blank.parts ≡ L.parts }
-    requires counted { 0 < blank.parts }
-    ensures line { words_number out.new ≡ line n cols }
-    ensures columns { (c : ℕ) → IsBitSet (slice_index out.new (c / 64)) (c % 64)
-        ↔ In c (columns_drawn n cols) }
-    ensures words { All (λ w. w < 2 ^ 64) out.new }
+    requires blank { IsBlankOf L.name L.parts blank.name blank.parts }
+    ensures { IsLine n cols out.new }
 {
     let mut steps = Steps::<L>::new(blank);
     line(n, cols, out, &mut steps)

@@ -1,5 +1,8 @@
 -- Sums of many pieces, and lines without many columns. (This project's profile.)
-use Rattle.std.specs.Prelude.{◌≡◌, ℕ, ◌+◌, ◌*◌, ◌^◌, ◌<◌, ◌≤◌, List, [], ◌∷◌, length, get_or, slice_index, bit_xor}
+use Rattle.std.specs.Prelude.{◌≡◌, ℕ, ◌+◌, ◌*◌, ◌^◌, ◌<◌, ◌≤◌, List, [], ◌∷◌, length, take, get_or, slice_index, bit_xor}
+use Rattle.std.specs.Int.{bit_at}
+use Rattle.std.specs.Int.Count.{ones}
+use Rattle.row_arena.specs.Rows.{line_in}
 
 -- byte i, which was b, after byte i of each of these pieces was added; they lie one after the other
 unfoldable pub after_pieces : ℕ → List ℕ → ℕ → ℕ → List ℕ → ℕ
@@ -27,3 +30,16 @@ SumsFrom at count area picks part bytes =
 unfoldable pub after_flips : ℕ → List ℕ → ℕ
 after_flips line [] = line
 after_flips line (c ∷ cs) = after_flips (bit_xor line (2 ^ c)) cs
+
+-- the known columns were taken out of a line, and so many of them are listed in front of the picks
+pub record ArePicked (count : ℕ) (old new columns picks : List ℕ) : Type 0 where
+  -- the line lost just those that are listed
+  pub line : line_in new ≡ after_flips (line_in old) (take count picks)
+  -- each of them is known
+  pub known : (n : ℕ) → n < count → bit_at (line_in columns) (slice_index picks n) ≡ 1
+  pub inside : (n : ℕ) → n < count → slice_index picks n < 64 * length columns
+  -- and no known one is left
+  pub none : (c : ℕ) → bit_at (line_in columns) c ≡ 1 → bit_at (line_in new) c ≡ 0
+  pub few : count ≤ length picks
+  -- none is listed twice
+  pub each : count + ones (line_in new) ≡ ones (line_in old)

@@ -18,4 +18,5 @@ pub mod Gridding
 pub mod Answering
 pub mod Repeating
 pub mod Solving
+pub mod Working
 pub mod Packing

@@ -9,7 +9,7 @@ use Rattle.row_elimination.specs.declared.stages.Fed.TheVariants as fed
 use Rattle.row_elimination.specs.HeldPlaces.{free, gained_held}
 use Rattle.row_elimination.specs.Inside.{IsReduced}
 use Rattle.row_elimination.specs.HeldTable.{Grid, SameRoom}
-use Rattle.row_elimination.specs.HeldSolver.{Held, TwoFit, Receives, Completes, Contradicts, Overflows}
+use Rattle.row_elimination.specs.HeldSolver.{Held, TwoFit, Receives, Completes, Contradicts, Overflows, Feeds}
 use Rattle.row_elimination.specs.HeldTaking.{held_of, stage_after, FedAs}
 use Rattle.row_arena.specs.Rows.{words_for, has_room as has_arena_room}
 use Rattle.row_elimination.specs.Room.{Extent, has_room}
@@ -67,6 +67,16 @@ fed_overflows answer old new n part h e = subst (λ a. FedAs a old new n part) e
 pub fed_contradicts : (answer : Fed) (old new : Held) (n : ℕ) (part : List ℕ) → FedAs answer old new n part → answer ≡ fed.Conflict → Contradicts old new n part
 unfolding FedAs
 fed_contradicts answer old new n part h e = subst (λ a. FedAs a old new n part) e h
+
+-- what each answer means, one by one
+pub feeds : (answer : Fed) (old new : Held) (n : ℕ) (part : List ℕ) → new.extent ≡ old.extent → FedAs answer old new n part → Feeds old new n part answer
+feeds answer old new n part extent h = record {
+  receiving = fed_receives answer old new n part h;
+  complete = fed_completes answer old new n part h;
+  no_rows = fed_overflows answer old new n part h;
+  conflict = fed_contradicts answer old new n part h;
+  extent = extent;
+}
 
 -- the fields afterwards
 pub still_solver : (g new : Grid) (answer : Fed) (line_cap picks_cap : ℕ) (line line' picks picks' part part' : List ℕ)

@@ -3,6 +3,7 @@
 use Rattle.std.specs.Prelude.{◌≡◌, ◌≢◌, ◌⊎◌, ℕ, ◌+◌, ◌-◌, ◌*◌, ◌^◌, ◌<◌, ◌≤◌, List, length, get_or, take, false}
 use Rattle.std.specs.Int.{bit_at}
 use Rattle.frag_model.specs.Fragments.{IsPiece, line_of, xor_bytes}
+use Rattle.frag_model.specs.Limits.{max_parity_index, max_pieces}
 use Rattle.row_arena.specs.Rows.{Arena, line_in, words_for}
 use Rattle.row_elimination.specs.declared.columns.Column.{Column}
 use Rattle.row_elimination.specs.declared.columns.Column.TheVariants.{Free, Piece, Row}
@@ -80,6 +81,18 @@ pub record MayLearn (g : Grid) (k : ℕ) (piece : List ℕ) (p : ℕ) (line part
   pub new : IsNew g.shape.nb_frag g.shape.frag_size g.places p (line_in line) part
   pub known : Knows g.shape (grown p (line_in line) part g.places) k piece
   pub fresh : is_piece (get_or g.places k free) ≡ false
+
+-- a fragment, with room for a line, for its columns and for the bytes of a piece
+pub record MayTake (g : Grid) (n : ℕ) (part line ps rest : List ℕ) : Type 0 where
+  pub words : words_for g.shape.nb_frag ≤ length line
+  pub picks : 64 * words_for g.shape.nb_frag ≤ length ps
+  pub most : g.shape.nb_frag ≤ max_pieces
+  pub bytes : length part ≤ length rest
+  pub sized : length part ≡ g.shape.frag_size
+  pub some : 1 ≤ g.shape.frag_size
+  pub first : 1 ≤ n
+  pub last : n ≤ g.shape.nb_frag + max_parity_index
+  pub more : gained_held g.places < g.shape.nb_frag
 
 -- a fragment whose line was drawn
 pub record MayTakeIn (g : Grid) (n : ℕ) (part line ps rest : List ℕ) : Type 0 where

@@ -1,5 +1,5 @@
 -- A solver as contracts see it, and what a fragment makes of it.
-use Rattle.std.specs.Prelude.{◌≡◌, ◌≢◌, ◌↔◌, ◌⊎◌, ℕ, suc, ◌+◌, ◌-◌, ◌<◌, ◌≤◌, Bool, true, false, ◌&&◌, not, nat_le, List, ◌∷◌, length, get_or, replicate, if◌then◌else◌}
+use Rattle.std.specs.Prelude.{◌≡◌, ◌≢◌, ◌↔◌, ◌⊎◌, ℕ, suc, ◌+◌, ◌-◌, ◌<◌, ◌≤◌, Bool, true, false, ◌&&◌, not, nat_le, List, ◌∷◌, length, get_or, replicate, if◌then◌else◌, Result, OnOk, OnErr}
 use Rattle.std.specs.List.{concat}
 use Rattle.frag_model.specs.Fragments.{Shape, Equation, Meets, line_of}
 use Rattle.frag_model.specs.Gain.{is_sum}
@@ -115,3 +115,13 @@ pub record IsBegun (h : Held) : Type 0 where
   pub sized : 1 ≤ h.shape.frag_size
   pub stage : h.stage ≡ stage.Receiving
   pub places : h.places ≡ replicate h.shape.nb_frag free
+
+-- what asking it to begin a file of this shape makes of a solver
+pub record Begins {E : Type 0} (old new : Held) (file : Shape) (result : Result (Unit {0}) E) : Type 0 where
+  -- at Ok nothing is held of the file, and two different blocks fit
+  pub begun : OnOk result (IsBegun new)
+  pub shape : OnOk result (new.shape ≡ file)
+  pub two : OnOk result (TwoFit new)
+  -- where there is no room it stays as it was
+  pub refused : OnErr result (new ≡ old)
+  pub extent : new.extent ≡ old.extent

@@ -50,6 +50,13 @@ FedAs fed.Complete old new n part = Completes old new n part
 FedAs fed.NoRows old new n part = Overflows old new n part
 FedAs fed.Conflict old new n part = Contradicts old new n part
 
+-- a table that receives was given a fragment, and answered so
+pub record IsFed (answer : Fed) (old new : Grid) (n : ℕ) (part : List ℕ) : Type 0 where
+  -- which is what the answer means
+  pub fed : FedAs answer (held_of stage.Receiving old) (held_of (stage_after answer) new) n part
+  pub room : SameRoom old new
+  pub held : IsReduced new.shape.nb_frag new.shape.frag_size new.places
+
 -- what deciding makes of a table: nothing while something is free, else all parts lie in the area
 unfoldable pub DecidedAs : Fed → Grid → Grid → Type 0
 DecidedAs fed.Receiving old new = (new ≡ old) × (gained_held old.places < old.shape.nb_frag)

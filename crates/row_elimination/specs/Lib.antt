@@ -2,6 +2,7 @@ pub mod HeldPlaces
 pub mod PackedColumns
 pub mod Inside
 pub mod HeldSolver
+pub mod Work
 pub mod HeldHistory
 pub mod HeldStorage
 pub mod HeldSteps

@@ -10,6 +10,7 @@ ghost use Rattle.row_elimination.specs.HeldTable.{max_line_words};
 ghost use Rattle.row_elimination.specs.HeldStorage.{places_in, IsRowOf, Clears, ClearsAll};
 ghost use Rattle.row_elimination.specs.HeldSteps.{Reduced, TakesRow, TakesRows};
 ghost use Rattle.row_elimination.specs.Asked.{MayPass, MayTakeRows};
+ghost use Rattle.row_elimination.specs.Work.{AddsColumns};
 
 use crate::columns::{Column, PackedColumn};
 use crate::tables::LINE_WORDS;
@@ -34,7 +35,7 @@ pub fn reduce<const W: usize, const B: usize, M: Ledger>(
     requires { MayPass columns.now area.now known.now arena.now line.old picks.old part.now rest.old }
     ensures left { Reduced (length columns.now) (length part.now) (places_in (length part.now)
         area.now arena.now columns.now) (line_in line.old) part.now (line_in line.new) rest.new }
-    ensures few { sums.new ≤ sums.old + columns_in (line_in line.old) }
+    ensures few { AddsColumns (line_in line.old) sums.old sums.new }
 {
     let count = pick(line, known, picks);
     sum_counted(area, &picks[..count], part, rest, sums);
@@ -70,7 +71,7 @@ fn take_rows<const W: usize, const B: usize, M: Ledger>(
     requires { MayTakeRows columns.now arena.now line.old picks.old rest.old }
     ensures taken { TakesRows (length rest.old) arena.now columns.now (line_in line.old) rest.old
         (line_in line.new) rest.new }
-    ensures few { sums.new ≤ sums.old + columns_in (line_in line.old) }
+    ensures few { AddsColumns (line_in line.old) sums.old sums.new }
 {
     let count = list_bits(line, picks);
     for n in 0..count {

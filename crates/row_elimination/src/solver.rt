@@ -1,8 +1,8 @@
 //! A file that is recovered from whatever fragments of it come.
 
-ghost use Rattle.std.specs.Prelude.{◌≡◌, ◌*◌, ◌+◌, ◌/◌, ◌<◌, ◌≤◌, length, max, is_ok, IfOk, OnOk, OnErr};
-ghost use Rattle.frag_model.specs.Fragments.{columns_in, draws_of, line_of};
-ghost use Rattle.row_elimination.specs.HeldSolver.{missing_of, TwoFit, IsBegun, Receives, Completes, Contradicts, Overflows};
+ghost use Rattle.std.specs.Prelude.{◌≡◌, ◌+◌, ◌<◌, ◌≤◌, length, is_ok, IfOk};
+ghost use Rattle.row_elimination.specs.HeldSolver.{missing_of, Begins, Feeds};
+ghost use Rattle.row_elimination.specs.Work.{CountsWork};
 ghost use Rattle.row_elimination.specs.HeldPlaces.{pieces_held};
 ghost use Rattle.row_elimination.specs.Room.{extent_for, has_room};
 ghost use Rattle.row_elimination.specs.HeldTaking.{stage_after};
@@ -143,12 +143,8 @@ impl<const W: usize, const B: usize> Solver<W, B> {
         requires short { padding < frag_size }
         requires few { rows ≤ nb_frag }
         ensures room { is_ok result ≡ has_room W B self.old.extent nb_frag frag_size rows }
-        ensures begun { OnOk result (IsBegun self.new) }
-        ensures shape { OnOk result
-            (self.new.shape ≡ record { nb_frag = nb_frag; frag_size = frag_size; rows = rows }) }
-        ensures two { OnOk result (TwoFit self.new) }
-        ensures refused { OnErr result (self.new ≡ self.old) }
-        ensures extent { self.new.extent ≡ self.old.extent }
+        ensures begins { Begins self.old self.new
+            (record { nb_frag = nb_frag; frag_size = frag_size; rows = rows }) result }
     {
         // the padding matters to who takes the file out, and not here
         let _ = padding;
@@ -170,11 +166,7 @@ impl<const W: usize, const B: usize> Solver<W, B> {
         requires first { 1 ≤ n }
         requires last { n ≤ self.old.shape.nb_frag + max_parity_index }
         requires sized { length part.now ≡ self.old.shape.frag_size }
-        ensures receiving { result ≡ Fed.Receiving → Receives self.old self.new n part.now }
-        ensures complete { result ≡ Fed.Complete → Completes self.old self.new n part.now }
-        ensures no_rows { result ≡ Fed.NoRows → Overflows self.old self.new n part.now }
-        ensures conflict { result ≡ Fed.Conflict → Contradicts self.old self.new n part.now }
-        ensures extent { self.new.extent ≡ self.old.extent }
+        ensures { Feeds self.old self.new n part.now result }
     {
         take_uncounted::<Solver<W, B>, Brand, Brand>(self, n, part, Blank::new(1), Blank::new(1))
     }
@@ -192,17 +184,8 @@ impl<const W: usize, const B: usize> Solver<W, B> {
         requires first { 1 ≤ n }
         requires last { n ≤ self.old.shape.nb_frag + max_parity_index }
         requires sized { length part.now ≡ self.old.shape.frag_size }
-        ensures receiving { result ≡ Fed.Receiving → Receives self.old self.new n part.now }
-        ensures complete { result ≡ Fed.Complete → Completes self.old self.new n part.now }
-        ensures no_rows { result ≡ Fed.NoRows → Overflows self.old self.new n part.now }
-        ensures conflict { result ≡ Fed.Conflict → Contradicts self.old self.new n part.now }
-        ensures extent { self.new.extent ≡ self.old.extent }
-        ensures draws { draws.new ≡ draws.old + draws_of self.old.shape.nb_frag n }
-        ensures few_draws { draws.new ≤ draws.old + 25 * (self.old.shape.nb_frag / 2) }
-        ensures sums { sums.new ≤ sums.old
-            + columns_in (line_of self.old.shape.nb_frag n) + self.old.shape.rows }
-        ensures few_sums { sums.new
-            ≤ sums.old + max 1 (self.old.shape.nb_frag / 2) + self.old.shape.rows }
+        ensures fed { Feeds self.old self.new n part.now result }
+        ensures counted { CountsWork self.old.shape n draws.old draws.new sums.old sums.new }
     {
         let kept = &mut *self.kept;
         let fed = take(

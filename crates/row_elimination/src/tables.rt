@@ -1,7 +1,7 @@
 //! The table of all that is held: pieces in their area, and the rows in slots.
 
 ghost use Rattle.std.specs.Prelude.{◌≡◌, ℕ, ◌+◌, ◌-◌, ◌*◌, ◌<◌, ◌≤◌, ◌==◌, ◌++◌, length, get_or, set, replicate, take, true, false, IfOk, bit_xor, ◌^◌, MatchOption, vec_capacity};
-ghost use Rattle.frag_model.specs.Fragments.{Equation, IsPiece, columns_in};
+ghost use Rattle.frag_model.specs.Fragments.{Equation, IsPiece};
 ghost use Rattle.row_arena.specs.Limits.{max_bytes, max_words};
 ghost use Rattle.row_arena.specs.Rows.{has_room, line_in, words_for};
 ghost use Rattle.row_elimination.specs.HeldPlaces.{free, piece as known, is_piece, grown, pieces_held, rows_held, gained_held};
@@ -11,6 +11,7 @@ ghost use Rattle.row_elimination.specs.HeldSteps.{Reduced, Knows, Tells};
 ghost use Rattle.row_elimination.specs.HeldTable.{Grid, SameRoom, max_line_words};
 ghost use Rattle.frag_model.specs.Limits.{max_pieces};
 ghost use Rattle.row_elimination.specs.Asked.{MayReduce, MayPush, MayLearn};
+ghost use Rattle.row_elimination.specs.Work.{AddsColumns};
 
 use crate::additions::{add_piece, add_piece_and_row, add_row};
 use crate::bytes::chunk;
@@ -199,7 +200,7 @@ impl<const W: usize, const B: usize> Table<W, B> {
             (line_in line.old) part.now (line_in line.new) rest.new }
         ensures held { IsReduced self.now.shape.nb_frag self.now.shape.frag_size self.now.places }
         ensures room { rows_held self.now.places ≤ self.now.shape.rows }
-        ensures few { sums.new ≤ sums.old + columns_in (line_in line.old) }
+        ensures few { AddsColumns (line_in line.old) sums.old sums.new }
     {
         let columns = &self.columns[..self.nb_frag as usize];
         let known = &self.known[..line.len()];

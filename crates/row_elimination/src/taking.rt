@@ -1,17 +1,15 @@
 //! Taking one fragment into a table.
 
-ghost use Rattle.std.specs.Prelude.{◌≡◌, ◌≢◌, ℕ, ◌+◌, ◌-◌, ◌*◌, ◌/◌, ◌<◌, ◌≤◌, length, get_or, true, false, MatchOption};
+ghost use Rattle.std.specs.Prelude.{◌≡◌, ◌≢◌, ℕ, ◌+◌, ◌<◌, ◌≤◌, length, get_or, true, false, MatchOption};
 ghost use Rattle.std.specs.Int.{bit_at};
-ghost use Rattle.frag_model.specs.Fragments.{columns_in, draws_of, line_of};
-ghost use Rattle.row_arena.specs.Rows.{line_in, words_for};
-ghost use Rattle.row_elimination.specs.declared.stages.Stage.TheVariants as stage;
-ghost use Rattle.row_elimination.specs.HeldPlaces.{gained_held, rows_held};
+ghost use Rattle.frag_model.specs.Fragments.{columns_in};
+ghost use Rattle.row_arena.specs.Rows.{line_in};
+ghost use Rattle.row_elimination.specs.HeldPlaces.{rows_held};
 ghost use Rattle.row_elimination.specs.Inside.{IsReduced};
-ghost use Rattle.row_elimination.specs.HeldTable.{SameRoom, max_line_words};
-ghost use Rattle.row_elimination.specs.HeldSolver.{Takes};
-ghost use Rattle.row_elimination.specs.HeldTaking.{held_of, IsReady, IsZero, stage_after, FedAs, DecidedAs};
-ghost use Rattle.frag_model.specs.Limits.{max_parity_index, max_pieces};
-ghost use Rattle.row_elimination.specs.Asked.{MayTakeAgain, MayTakeFirst, MayTakeIn, MayTakeNew};
+ghost use Rattle.row_elimination.specs.HeldTable.{max_line_words};
+ghost use Rattle.row_elimination.specs.HeldTaking.{IsReady, IsZero, DecidedAs, IsFed};
+ghost use Rattle.row_elimination.specs.Work.{CountsWork};
+ghost use Rattle.row_elimination.specs.Asked.{MayTake, MayTakeAgain, MayTakeFirst, MayTakeIn, MayTakeNew};
 
 use crate::drawing::draw;
 use crate::stages::Fed;
@@ -33,23 +31,9 @@ pub fn take<const W: usize, const B: usize, L: Ledger, M: Ledger>(
     draws: &mut Steps<L>,
     sums: &mut Steps<M>,
 ) -> Fed
-    requires words { words_for table.old.shape.nb_frag ≤ length line.old }
-    requires picks { 64 * words_for table.old.shape.nb_frag ≤ length picks.old }
-    requires most { table.old.shape.nb_frag ≤ max_pieces }
-    requires bytes { length part.now ≤ length rest.old }
-    requires sized { length part.now ≡ table.old.shape.frag_size }
-    requires some { 1 ≤ table.old.shape.frag_size }
-    requires first { 1 ≤ n }
-    requires last { n ≤ table.old.shape.nb_frag + max_parity_index }
-    requires more { gained_held table.old.places < table.old.shape.nb_frag }
-    ensures fed { FedAs result (held_of stage.Receiving table.old)
-        (held_of (stage_after result) table.new) n part.now }
-    ensures room { SameRoom table.old table.new }
-    ensures held { IsReduced table.new.shape.nb_frag table.new.shape.frag_size table.new.places }
-    ensures draws { draws.new ≡ draws.old + draws_of table.old.shape.nb_frag n }
-    ensures few_draws { draws.new ≤ draws.old + 25 * (table.old.shape.nb_frag / 2) }
-    ensures sums { sums.new
-        ≤ sums.old + columns_in (line_of table.old.shape.nb_frag n) + table.old.shape.rows }
+    requires { MayTake table.old n part.now line.old picks.old rest.old }
+    ensures fed { IsFed result table.old table.new n part.now }
+    ensures counted { CountsWork table.old.shape n draws.old draws.new sums.old sums.new }
 {
     if n <= table.nb_frag() {
         let k = n as usize - 1;
@@ -74,8 +58,7 @@ fn take_again<const W: usize, const B: usize>(
     piece: &[u8],
 ) -> Fed
     requires { MayTakeAgain table.now n part.now piece.now }
-    ensures { FedAs result (held_of stage.Receiving table.now)
-        (held_of (stage_after result) table.now) n part.now }
+    ensures { IsFed result table.now table.now n part.now }
 {
     if piece == part {
         Fed::Receiving
@@ -87,10 +70,7 @@ fn take_again<const W: usize, const B: usize>(
 /// Takes in a piece that did not come before, where no row is held.
 fn take_first<const W: usize, const B: usize>(table: &mut Table<W, B>, n: u16, part: &[u8]) -> Fed
     requires { MayTakeFirst table.old n part.now }
-    ensures fed { FedAs result (held_of stage.Receiving table.old)
-        (held_of (stage_after result) table.new) n part.now }
-    ensures room { SameRoom table.old table.new }
-    ensures held { IsReduced table.new.shape.nb_frag table.new.shape.frag_size table.new.places }
+    ensures { IsFed result table.old table.new n part.now }
 {
     table.put(n as usize - 1, part);
     decide(table)
@@ -107,10 +87,7 @@ fn take_in<const W: usize, const B: usize, M: Ledger>(
     sums: &mut Steps<M>,
 ) -> Fed
     requires { MayTakeIn table.old n part.now line.old picks.old rest.old }
-    ensures fed { FedAs result (held_of stage.Receiving table.old)
-        (held_of (stage_after result) table.new) n part.now }
-    ensures room { SameRoom table.old table.new }
-    ensures held { IsReduced table.new.shape.nb_frag table.new.shape.frag_size table.new.places }
+    ensures fed { IsFed result table.old table.new n part.now }
     ensures sums { sums.new ≤ sums.old + columns_in (line_in line.old) + table.old.shape.rows }
 {
     table.reduce(line, picks, part, rest, sums);
@@ -130,10 +107,7 @@ fn take_old<const W: usize, const B: usize>(
 ) -> Fed
     requires ready { IsReady table.old n part.now (line_in line.now) rest.now }
     requires none { line_in line.now ≡ 0 }
-    ensures fed { FedAs result (held_of stage.Receiving table.old)
-        (held_of (stage_after result) table.new) n part.now }
-    ensures room { SameRoom table.old table.new }
-    ensures held { IsReduced table.new.shape.nb_frag table.new.shape.frag_size table.new.places }
+    ensures { IsFed result table.old table.new n part.now }
 {
     if !is_zero(rest) {
         return Fed::Conflict;
@@ -155,10 +129,7 @@ fn take_new<const W: usize, const B: usize, M: Ledger>(
     sums: &mut Steps<M>,
 ) -> Fed
     requires { MayTakeNew table.old n part.now p line.now rest.now }
-    ensures fed { FedAs result (held_of stage.Receiving table.old)
-        (held_of (stage_after result) table.new) n part.now }
-    ensures room { SameRoom table.old table.new }
-    ensures held { IsReduced table.new.shape.nb_frag table.new.shape.frag_size table.new.places }
+    ensures fed { IsFed result table.old table.new n part.now }
     ensures sums { sums.new ≤ sums.old + table.old.shape.rows }
 {
     if n <= table.nb_frag() {
@@ -182,10 +153,7 @@ fn take_piece<const W: usize, const B: usize, M: Ledger>(
 ) -> Fed
     requires new { MayTakeNew table.old n part.now p line.now rest.now }
     requires uncoded { n ≤ table.old.shape.nb_frag }
-    ensures fed { FedAs result (held_of stage.Receiving table.old)
-        (held_of (stage_after result) table.new) n part.now }
-    ensures room { SameRoom table.old table.new }
-    ensures held { IsReduced table.new.shape.nb_frag table.new.shape.frag_size table.new.places }
+    ensures fed { IsFed result table.old table.new n part.now }
     ensures sums { sums.new ≤ sums.old + table.old.shape.rows }
 {
     table.learn(n as usize - 1, part, p, line, rest, sums);
@@ -206,10 +174,7 @@ fn take_row<const W: usize, const B: usize, M: Ledger>(
     requires new { MayTakeNew table.old n part.now p line.now rest.now }
     requires coded { table.old.shape.nb_frag < n }
     requires spare { rows_held table.old.places < table.old.shape.rows }
-    ensures fed { FedAs result (held_of stage.Receiving table.old)
-        (held_of (stage_after result) table.new) n part.now }
-    ensures room { SameRoom table.old table.new }
-    ensures held { IsReduced table.new.shape.nb_frag table.new.shape.frag_size table.new.places }
+    ensures fed { IsFed result table.old table.new n part.now }
     ensures sums { sums.new ≤ sums.old + table.old.shape.rows }
 {
     table.push(p, line, rest, sums);

@@ -1,6 +1,7 @@
 //! A call that counts its work, for a caller that counts nothing.
 
-ghost use Rattle.std.specs.Prelude.{◌≡◌, ℕ, ◌<◌, List};
+ghost use Rattle.std.specs.Prelude.{ℕ, List};
+ghost use Rattle.parity_lines.specs.Counts.{IsBlankOf};
 ghost use Rattle.row_elimination.specs.declared.stages.Fed.{Fed};
 
 use crate::stages::Fed;
@@ -35,12 +36,8 @@ pub fn take_uncounted<F: Counts, L: Ledger, M: Ledger>(
     no_sums: Blank,
 ) -> Fed
     requires may { F.may_take taker.old n part.now }
-    requires draws_name { no_draws.name ≡ L.name }
-    requires draws_parts { no_draws.parts ≡ L.parts }
-    requires draws_counted { 0 < no_draws.parts }
-    requires sums_name { no_sums.name ≡ M.name }
-    requires sums_parts { no_sums.parts ≡ M.parts }
-    requires sums_counted { 0 < no_sums.parts }
+    requires draws { IsBlankOf L.name L.parts no_draws.name no_draws.parts }
+    requires sums { IsBlankOf M.name M.parts no_sums.name no_sums.parts }
     ensures { F.takes taker.old taker.new n part.now result }
 {
     let mut draws = Steps::<L>::new(no_draws);

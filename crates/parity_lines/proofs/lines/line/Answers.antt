@@ -70,20 +70,20 @@ pub returns-then-found-half : goal.returns-then-found-half
 returns-then-found-half g c =
     let whole = words_done c.args.n c.args.cols _ _ _ _ _ (omega arith) c.loop-drawn.invariant.drawing in
     record {
-      line = whole.line;
-      columns = whole.columns;
-      words = whole.small;
-      draws = c.loop-drawn.invariant.counted ∙ ap (λ d. c.args.steps.now + d) whole.draws;
-      few = omega arith;
+      line = record { line = whole.line; columns = whole.columns; words = whole.small };
+      drawn = record {
+        draws = c.loop-drawn.invariant.counted ∙ ap (λ d. c.args.steps.now + d) whole.draws;
+        few = omega arith;
+      };
     }
 
 pub returns : goal.returns
 returns g c =
     let whole = words_end c.args.n c.args.cols _ _ _ _ _ (omega arith) c.loop-drawn.invariant.drawing in
     record {
-      line = whole.line;
-      columns = whole.columns;
-      words = whole.small;
-      draws = c.loop-drawn.invariant.counted ∙ ap (λ d. c.args.steps.now + d) whole.draws;
-      few = omega arith;
+      line = record { line = whole.line; columns = whole.columns; words = whole.small };
+      drawn = record {
+        draws = c.loop-drawn.invariant.counted ∙ ap (λ d. c.args.steps.now + d) whole.draws;
+        few = omega arith;
+      };
     }

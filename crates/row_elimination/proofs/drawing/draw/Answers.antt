@@ -10,10 +10,10 @@ returns-then-n-pieces-clause-line g c = c.mark_piece.ensures ∙ sym (line_of_pi
 
 pub returns-else-n-pieces-clause-line : goal.returns-else-n-pieces-clause-line
 returns-else-n-pieces-clause-line g c =
-    words_are c.line.new.out ∙ c.line.ensures.line ∙ sym (line_of_coded c.args.pieces c.args.n (omega arith))
+    words_are c.line.new.out ∙ c.line.ensures.line.line ∙ sym (line_of_coded c.args.pieces c.args.n (omega arith))
 
 pub returns-then-n-pieces-clause-draws : goal.returns-then-n-pieces-clause-draws
 returns-then-n-pieces-clause-draws g c = omega (arith, draws_of_piece c.args.pieces c.args.n (omega arith))
 
 pub returns-else-n-pieces-clause-draws : goal.returns-else-n-pieces-clause-draws
-returns-else-n-pieces-clause-draws g c = omega (arith, c.line.ensures.draws, draws_of_coded c.args.pieces c.args.n (omega arith))
+returns-else-n-pieces-clause-draws g c = omega (arith, c.line.ensures.drawn.draws, draws_of_coded c.args.pieces c.args.n (omega arith))

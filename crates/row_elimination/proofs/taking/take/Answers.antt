@@ -1,12 +1,13 @@
-use Rattle.std.proofs.Common.{◌≡◌, ◌-◌, ◌<◌, ◌^◌, ℕ, length, take, get_or, sym, ap, ◌∙◌, arith, eqb-true, length-take-le}
+use Rattle.std.proofs.Common.{◌≡◌, ◌+◌, ◌-◌, ◌<◌, ◌^◌, ℕ, length, take, get_or, sym, ap, ◌∙◌, arith, eqb-true, length-take-le}
 use Rattle.std.proofs.lemmas.List.Elements.{All-from_get_or}
-use Rattle.frag_model.specs.Fragments.{line_of}
-use Rattle.frag_model.proofs.Work.{draws_of_piece}
+use Rattle.std.specs.Int.Count.{ones}
+use Rattle.frag_model.specs.Fragments.{draws_of, line_of}
 use Rattle.row_arena.specs.Rows.{words_for}
 use Rattle.row_elimination.specs.HeldPlaces.{free, rows_held}
 use Rattle.row_elimination.proofs.Counting.{no_rows_free}
 use Rattle.row_elimination.proofs.Gridding.{width_holds}
 use Rattle.row_elimination.proofs.Repeating.{ready_free, ready_again}
+use Rattle.row_elimination.proofs.Working.{work_of_line, work_of_piece}
 use Rattle.row_elimination.proofs.taking.take.Goals as goal
 
 pub take_again-requires : goal.take_again-requires
@@ -61,8 +62,16 @@ take_in-requires g c =
       },
     )
 
-pub returns-in-Some-clause-draws : goal.returns-in-Some-clause-draws
-returns-in-Some-clause-draws g c = omega (arith, draws_of_piece c.args.table.now.shape.nb_frag c.args.n (omega arith))
+pub returns-in-Some-clause-counted : goal.returns-in-Some-clause-counted
+returns-in-Some-clause-counted g c = work_of_piece c.args.table.now.shape c.args.n c.args.draws.now c.args.sums.now (omega arith)
 
-pub returns-then-has_no_rows-clause-draws : goal.returns-then-has_no_rows-clause-draws
-returns-then-has_no_rows-clause-draws g c = omega (arith, draws_of_piece c.args.table.now.shape.nb_frag c.args.n (omega arith))
+pub returns-then-has_no_rows-clause-counted : goal.returns-then-has_no_rows-clause-counted
+returns-then-has_no_rows-clause-counted g c = work_of_piece c.args.table.now.shape c.args.n c.args.draws.now c.args.sums.now (omega arith)
+
+pub returns-clause-counted : goal.returns-clause-counted
+returns-clause-counted g c =
+    let t = c.args.table.now in
+    let drawn = c.draw.ensures.line ∙ ap (λ (m : ℕ). line_of m c.args.n) c.nb_frag-2.ensures in
+    work_of_line t.shape c.args.n c.args.draws.now c.draw.new.draws c.args.sums.now c.take_in.new.sums
+    (c.draw.ensures.draws ∙ ap (λ (m : ℕ). c.args.draws.now + draws_of m c.args.n) c.nb_frag-2.ensures)
+    (omega (arith, c.draw.ensures.few, c.nb_frag-2.ensures)) (omega (arith, c.take_in.ensures.sums, ap ones drawn))

@@ -9,17 +9,15 @@ decide-requires g c = (
   first_held c.args.table.now c.put.new.self c.args.n c.args.part.now c.requires.ready c.requires.uncoded c.requires.fresh c.requires.none c.put.ensures.room c.put.ensures.places,
 )
 
-pub returns-clause-fed : goal.returns-clause-fed
-returns-clause-fed g c =
-    first_is c.decide.result c.args.table.now c.put.new.self c.decide.new.table c.args.n c.args.part.now c.requires.ready c.requires.uncoded c.requires.none c.put.ensures.room c.put.ensures.places
-    (first_held c.args.table.now c.put.new.self c.args.n c.args.part.now c.requires.ready c.requires.uncoded c.requires.fresh c.requires.none c.put.ensures.room c.put.ensures.places)
-    c.decide.ensures
-
-pub returns-clause-room : goal.returns-clause-room
-returns-clause-room g c = decided_room c.decide.result c.args.table.now c.put.new.self c.decide.new.table c.put.ensures.room c.decide.ensures
-
-pub returns-clause-held : goal.returns-clause-held
-returns-clause-held g c =
-    decided_held c.decide.result c.put.new.self c.decide.new.table
-    (first_held c.args.table.now c.put.new.self c.args.n c.args.part.now c.requires.ready c.requires.uncoded c.requires.fresh c.requires.none c.put.ensures.room c.put.ensures.places)
-    c.decide.ensures
+pub returns : goal.returns
+returns g c = record {
+  fed =
+      first_is c.decide.result c.args.table.now c.put.new.self c.decide.new.table c.args.n c.args.part.now c.requires.ready c.requires.uncoded c.requires.none c.put.ensures.room c.put.ensures.places
+      (first_held c.args.table.now c.put.new.self c.args.n c.args.part.now c.requires.ready c.requires.uncoded c.requires.fresh c.requires.none c.put.ensures.room c.put.ensures.places)
+      c.decide.ensures;
+  room = decided_room c.decide.result c.args.table.now c.put.new.self c.decide.new.table c.put.ensures.room c.decide.ensures;
+  held =
+      decided_held c.decide.result c.put.new.self c.decide.new.table
+      (first_held c.args.table.now c.put.new.self c.args.n c.args.part.now c.requires.ready c.requires.uncoded c.requires.fresh c.requires.none c.put.ensures.room c.put.ensures.places)
+      c.decide.ensures;
+}

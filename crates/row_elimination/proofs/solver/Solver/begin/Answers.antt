@@ -1,4 +1,4 @@
-use Rattle.std.proofs.Common.{◌≡◌, ◌<◌, replicate, sym, ap, subst, ◌∙◌, arith}
+use Rattle.std.proofs.Common.{◌≡◌, ◌<◌, ◌≤◌, replicate, refl, sym, ap, subst, ◌∙◌, arith}
 use Rattle.std.specs.Prelude.{vec_capacity}
 use Rattle.row_arena.specs.Rows.{words_for}
 use Rattle.row_elimination.specs.Room.{Extent}
@@ -77,9 +77,20 @@ invariant_of-self g c =
       more = λ e. more;
     }
 
-pub returns-clause-two : goal.returns-clause-two
-returns-clause-two g c =
-    let small : c.begin.new.self.shape.frag_size ≡ c.args.frag_size = ap (λ (s : Shape). s.frag_size) c.begin.ensures.shape in
+pub returns-clause-begins : goal.returns-clause-begins
+returns-clause-begins g c =
+    let k : Kept g.row.W g.row.B = c.deref_mut-kept.result.now in
+    let same : k ≡ c.self.inside.kept.value = c.deref_mut-kept.ensures.value in
+    let view : held_of k.stage k.table ≡ c.args.self.now = ap (λ (x : Kept g.row.W g.row.B). held_of x.stage x.table) same ∙ c.self.view_is in
+    let size : c.begin.new.self.shape.frag_size ≡ c.args.frag_size = ap (λ (s : Shape). s.frag_size) c.begin.ensures.shape in
     let nb : c.begin.new.self.shape.nb_frag ≡ c.args.nb_frag = ap (λ (s : Shape). s.nb_frag) c.begin.ensures.shape in
-    two_at_first c.begin.new.self stage.Receiving (omega (arith, nb, c.requires.some)) (omega (arith, small, c.requires.short))
-    (c.begin.ensures.places ∙ ap (λ m. replicate m free) (sym nb))
+    let some : 1 ≤ c.begin.new.self.shape.nb_frag = omega (arith, nb, c.requires.some) in
+    let sized : 1 ≤ c.begin.new.self.shape.frag_size = omega (arith, size, c.requires.short) in
+    let places : c.begin.new.self.places ≡ replicate c.begin.new.self.shape.nb_frag free = c.begin.ensures.places ∙ ap (λ m. replicate m free) (sym nb) in
+    record {
+      begun = record { some = some; sized = sized; stage = refl; places = places };
+      shape = c.begin.ensures.shape;
+      two = two_at_first c.begin.new.self stage.Receiving some sized places;
+      refused = tt;
+      extent = c.begin.ensures.room ∙ ap (λ (h : Held). h.extent) view;
+    }

@@ -1,13 +1,13 @@
 use Rattle.std.specs.Prelude.{vec_capacity}
-use Rattle.std.proofs.Common.{◌≡◌, ◌+◌, ◌/◌, ◌≤◌, List, ℕ, length, max, sym, ap, ◌∙◌, subst, arith}
-use Rattle.frag_model.proofs.Work.{few_in_line}
+use Rattle.std.proofs.Common.{◌≡◌, List, ℕ, length, sym, ap, ◌∙◌, subst}
 use Rattle.row_elimination.specs.declared.stages.Stage.TheVariants as stage
 use Rattle.row_elimination.specs.declared.solver.Kept.{Kept}
 use Rattle.row_elimination.specs.HeldSolver.{Held}
 use Rattle.row_elimination.specs.HeldTaking.{held_of}
 use Rattle.row_elimination.specs.SolverInside.{IsSolver}
+use Rattle.row_elimination.specs.Work.{CountsWork}
 use Rattle.row_elimination.proofs.Gridding.{written}
-use Rattle.row_elimination.proofs.Solving.{still_solver, left_to_gain, fed_is, fed_receives, fed_completes, fed_overflows, fed_contradicts}
+use Rattle.row_elimination.proofs.Solving.{still_solver, left_to_gain, fed_is, feeds}
 use Rattle.row_elimination.proofs.solver.Solver.feed_counted.Goals as goal
 
 pub invariant_of-self : goal.invariant_of-self
@@ -29,50 +29,22 @@ invariant_of-self g c =
       written k.picks.len c.take-fed.new.picks picks (c.take-fed.auto.picks ∙ c.deref_mut-2.ensures.len),
       written k.part.len c.take-fed.new.rest part (c.take-fed.auto.rest ∙ c.deref_mut-3.ensures.len),
     )
-    (still_solver k.table c.take-fed.new.table c.take-fed.result (vec_capacity k.line) (vec_capacity k.picks) line c.take-fed.new.line picks c.take-fed.new.picks part c.take-fed.new.rest was c.take-fed.ensures.room
+    (still_solver k.table c.take-fed.new.table c.take-fed.result (vec_capacity k.line) (vec_capacity k.picks) line c.take-fed.new.line picks c.take-fed.new.picks part c.take-fed.new.rest was c.take-fed.ensures.fed.room
     (c.take-fed.auto.line ∙ ap length c.deref_mut.ensures.value) (c.take-fed.auto.picks ∙ ap length c.deref_mut-2.ensures.value) (c.take-fed.auto.rest ∙ ap length c.deref_mut-3.ensures.value)
-    (left_to_gain c.take-fed.result k.table c.take-fed.new.table c.args.n c.args.part.now c.take-fed.ensures.fed c.take-fed.ensures.held))
+    (left_to_gain c.take-fed.result k.table c.take-fed.new.table c.args.n c.args.part.now c.take-fed.ensures.fed.fed c.take-fed.ensures.fed.held))
 
-pub returns-clause-receiving : goal.returns-clause-receiving
-returns-clause-receiving g c =
+pub returns-clause-fed : goal.returns-clause-fed
+returns-clause-fed g c =
     let k : Kept g.row.W g.row.B = c.deref_mut-kept.result.now in
     let same : k ≡ c.self.inside.kept.value = c.deref_mut-kept.ensures.value in
     let view : held_of k.stage k.table ≡ c.args.self.now = ap (λ (x : Kept g.row.W g.row.B). held_of x.stage x.table) same ∙ c.self.view_is in
-    fed_receives c.take-fed.result c.args.self.now _ c.args.n c.args.part.now
+    feeds c.take-fed.result c.args.self.now _ c.args.n c.args.part.now (c.take-fed.ensures.fed.room.room ∙ ap (λ (h : Held). h.extent) view)
     (fed_is c.take-fed.result k.table c.take-fed.new.table k.stage c.stage_after-kept.result c.args.self.now c.args.n c.args.part.now view c.requires.receiving
-    c.stage_after-kept.ensures c.take-fed.ensures.fed)
+    c.stage_after-kept.ensures c.take-fed.ensures.fed.fed)
 
-pub returns-clause-complete : goal.returns-clause-complete
-returns-clause-complete g c =
+pub returns-clause-counted : goal.returns-clause-counted
+returns-clause-counted g c =
     let k : Kept g.row.W g.row.B = c.deref_mut-kept.result.now in
     let same : k ≡ c.self.inside.kept.value = c.deref_mut-kept.ensures.value in
     let view : held_of k.stage k.table ≡ c.args.self.now = ap (λ (x : Kept g.row.W g.row.B). held_of x.stage x.table) same ∙ c.self.view_is in
-    fed_completes c.take-fed.result c.args.self.now _ c.args.n c.args.part.now
-    (fed_is c.take-fed.result k.table c.take-fed.new.table k.stage c.stage_after-kept.result c.args.self.now c.args.n c.args.part.now view c.requires.receiving
-    c.stage_after-kept.ensures c.take-fed.ensures.fed)
-
-pub returns-clause-no_rows : goal.returns-clause-no_rows
-returns-clause-no_rows g c =
-    let k : Kept g.row.W g.row.B = c.deref_mut-kept.result.now in
-    let same : k ≡ c.self.inside.kept.value = c.deref_mut-kept.ensures.value in
-    let view : held_of k.stage k.table ≡ c.args.self.now = ap (λ (x : Kept g.row.W g.row.B). held_of x.stage x.table) same ∙ c.self.view_is in
-    fed_overflows c.take-fed.result c.args.self.now _ c.args.n c.args.part.now
-    (fed_is c.take-fed.result k.table c.take-fed.new.table k.stage c.stage_after-kept.result c.args.self.now c.args.n c.args.part.now view c.requires.receiving
-    c.stage_after-kept.ensures c.take-fed.ensures.fed)
-
-pub returns-clause-conflict : goal.returns-clause-conflict
-returns-clause-conflict g c =
-    let k : Kept g.row.W g.row.B = c.deref_mut-kept.result.now in
-    let same : k ≡ c.self.inside.kept.value = c.deref_mut-kept.ensures.value in
-    let view : held_of k.stage k.table ≡ c.args.self.now = ap (λ (x : Kept g.row.W g.row.B). held_of x.stage x.table) same ∙ c.self.view_is in
-    fed_contradicts c.take-fed.result c.args.self.now _ c.args.n c.args.part.now
-    (fed_is c.take-fed.result k.table c.take-fed.new.table k.stage c.stage_after-kept.result c.args.self.now c.args.n c.args.part.now view c.requires.receiving
-    c.stage_after-kept.ensures c.take-fed.ensures.fed)
-
-pub returns-clause-few_sums : goal.returns-clause-few_sums
-returns-clause-few_sums g c =
-    let k : Kept g.row.W g.row.B = c.deref_mut-kept.result.now in
-    let same : k ≡ c.self.inside.kept.value = c.deref_mut-kept.ensures.value in
-    let view : held_of k.stage k.table ≡ c.args.self.now = ap (λ (x : Kept g.row.W g.row.B). held_of x.stage x.table) same ∙ c.self.view_is in
-    subst (λ (h : Held). c.take-fed.new.sums ≤ c.args.sums.now + max 1 (h.shape.nb_frag / 2) + h.shape.rows) view
-    (omega (arith, c.take-fed.ensures.sums, few_in_line k.table.shape.nb_frag c.args.n))
+    subst (λ (h : Held). CountsWork h.shape c.args.n c.args.draws.now c.take-fed.new.draws c.args.sums.now c.take-fed.new.sums) view c.take-fed.ensures.counted
