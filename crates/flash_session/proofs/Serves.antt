@@ -11,8 +11,8 @@ use Rattle.flash_session.proofs.Still.{cause_behind, on_err_any, same_joined, el
 
 -- ---- another answer
 
-pub serves_ok : {T E T2 E2 : Type 0} {step : List ℕ → List ℕ → Type 0} {old new : FlashSeen} {r : Result T E} {x : T2} → FlashServes step old new r → FlashServes {T = T2} {E = E2} step old new (Ok x)
-serves_ok {T} {E} {T2} {E2} {step} {old} {new} {r} {x} s = record {
+pub serves_ok : {T E Other OtherError : Type 0} {step : List ℕ → List ℕ → Type 0} {old new : FlashSeen} {r : Result T E} {x : Other} → FlashServes step old new r → FlashServes {T = Other} {E = OtherError} step old new (Ok x)
+serves_ok {T} {E} {Other} {OtherError} {step} {old} {new} {r} {x} s = record {
   held = s.held;
   stops = s.stops;
   size = s.size;
@@ -20,8 +20,8 @@ serves_ok {T} {E} {T2} {E2} {step} {old} {new} {r} {x} s = record {
   torn = tt;
 }
 
-pub serves_failed : {T E T2 E2 : Type 0} {step : List ℕ → List ℕ → Type 0} {old new : FlashSeen} {e : E} (q : Result T2 E2) → FlashServes {T = T} {E = E} step old new (Err e) → FlashServes step old new q
-serves_failed {T} {E} {T2} {E2} {step} {old} {new} {e} q s = record {
+pub serves_failed : {T E Other OtherError : Type 0} {step : List ℕ → List ℕ → Type 0} {old new : FlashSeen} {e : E} (q : Result Other OtherError) → FlashServes {T = T} {E = E} step old new (Err e) → FlashServes step old new q
+serves_failed {T} {E} {Other} {OtherError} {step} {old} {new} {e} q s = record {
   held = s.held;
   stops = s.stops;
   size = s.size;
@@ -40,9 +40,9 @@ serves_none {T} {E} {step} {seen} {x} stays = record {
   torn = tt;
 }
 
-pub serves_joined : {T E T2 E2 : Type 0} {step : List ℕ → List ℕ → Type 0} {old mid new : FlashSeen} {r : Result T E} {q : Result T2 E2} → ((c d e : List ℕ) → step c d → step d e → step c e)
+pub serves_joined : {T E Next NextError : Type 0} {step : List ℕ → List ℕ → Type 0} {old mid new : FlashSeen} {r : Result T E} {q : Result Next NextError} → ((c d e : List ℕ) → step c d → step d e → step c e)
     → FlashServes step old mid r → FlashServes step mid new q → FlashServes step old new q
-serves_joined {T} {E} {T2} {E2} {step} {old} {mid} {new} {r} {q} joined one two = record {
+serves_joined {T} {E} {Next} {NextError} {step} {old} {mid} {new} {r} {q} joined one two = record {
   held = follows_joined joined one.held two.held;
   stops = one_more (λ c d s. s) joined one.stops two.stops;
   size = two.size ∙ one.size;
@@ -67,12 +67,12 @@ serves_wider {T} {E} {first} {both} {old} {new} {r} wider s = record {
 pub in_range : {T E : Type 0} {old new : FlashSeen} {r : Result T E} (at n at2 n2 : ℕ) → at2 ≤ at → at + n ≤ at2 + n2 → FlashServes (SameOutside at n) old new r → FlashServes (SameOutside at2 n2) old new r
 in_range {T} {E} {old} {new} {r} at n at2 n2 le within s = serves_wider (λ c d. outside_wider at n at2 n2 c d le within) s
 
-pub range_joined : {T E T2 E2 : Type 0} {old mid new : FlashSeen} {r : Result T E} {q : Result T2 E2} (at n : ℕ)
+pub range_joined : {T E Next NextError : Type 0} {old mid new : FlashSeen} {r : Result T E} {q : Result Next NextError} (at n : ℕ)
     → FlashServes (SameOutside at n) old mid r → FlashServes (SameOutside at n) mid new q → FlashServes (SameOutside at n) old new q
-range_joined {T} {E} {T2} {E2} {old} {mid} {new} {r} {q} at n one two = serves_joined (λ c d e. outside_joined at n c d e) one two
+range_joined {T} {E} {Next} {NextError} {old} {mid} {new} {r} {q} at n one two = serves_joined (λ c d e. outside_joined at n c d e) one two
 
-pub reads_joined : {T E T2 E2 : Type 0} {old mid new : FlashSeen} {r : Result T E} {q : Result T2 E2} → FlashServes Same old mid r → FlashServes Same mid new q → FlashServes Same old new q
-reads_joined {T} {E} {T2} {E2} {old} {mid} {new} {r} {q} one two = serves_joined same_after one two
+pub reads_joined : {T E Next NextError : Type 0} {old mid new : FlashSeen} {r : Result T E} {q : Result Next NextError} → FlashServes Same old mid r → FlashServes Same mid new q → FlashServes Same old new q
+reads_joined {T} {E} {Next} {NextError} {old} {mid} {new} {r} {q} one two = serves_joined same_after one two
 
 -- ---- what is opened
 
@@ -111,13 +111,13 @@ opens_from {T} {E} {f} {finds} {names} {old} {new} {r} read found foreign fault 
   fault = fault;
 }
 
-pub opens_at : {T E T2 E2 : Type 0} {f : E2 → OpenFault} {finds : T2 → FlashSeen → Type 0} {names : List ℕ → ℕ → Type 0} {old new : FlashSeen} {r : Result T E} {q : Result T2 E2}
+pub opens_at : {T E Outer OuterError : Type 0} {f : OuterError → OpenFault} {finds : Outer → FlashSeen → Type 0} {names : List ℕ → ℕ → Type 0} {old new : FlashSeen} {r : Result T E} {q : Result Outer OuterError}
     → FlashServes Same old new r → IfOk q (λ x. finds x new) → IfErr q (λ e. (p : ℕ) → f e ≡ why.Foreign p → (b : List ℕ) → new.holds b → names b p)
     → IfErr q (λ e. f e ≡ why.Flash → HasRisen old.faults new.faults) → (IsKept old → OnOk q (IsKept new)) → FlashOpens f finds names old new q
-opens_at {T} {E} {T2} {E2} {f} {finds} {names} {old} {new} {r} {q} serves = opens_from (is_read serves)
+opens_at {T} {E} {Outer} {OuterError} {f} {finds} {names} {old} {new} {r} {q} serves = opens_from (is_read serves)
 
-pub opens_by : {T E T1 E1 T2 E2 : Type 0} {g : E1 → OpenFault} {f : E2 → OpenFault} {goes : T1 → FlashSeen → Type 0} {says : List ℕ → ℕ → Type 0} {finds : T2 → FlashSeen → Type 0} {names : List ℕ → ℕ → Type 0}
-    {old mid new : FlashSeen} {r : Result T E} {p : Result T1 E1} {q : Result T2 E2}
+pub opens_by : {T E Inner InnerError Outer OuterError : Type 0} {g : InnerError → OpenFault} {f : OuterError → OpenFault} {goes : Inner → FlashSeen → Type 0} {says : List ℕ → ℕ → Type 0} {finds : Outer → FlashSeen → Type 0} {names : List ℕ → ℕ → Type 0}
+    {old mid new : FlashSeen} {r : Result T E} {p : Result Inner InnerError} {q : Result Outer OuterError}
     → FlashServes Same old mid r → FlashOpens g goes says mid new p → IfOk q (λ x. finds x new) → IfErr q (λ e. (p : ℕ) → f e ≡ why.Foreign p → (b : List ℕ) → new.holds b → names b p)
     → IfErr q (λ e. f e ≡ why.Flash → HasRisen old.faults new.faults) → (IsKept old → OnOk q (IsKept new)) → FlashOpens f finds names old new q
-opens_by {T} {E} {T1} {E1} {T2} {E2} {g} {f} {goes} {says} {finds} {names} {old} {mid} {new} {r} {p} {q} serves opens = opens_from (read_joined (is_read serves) (is_opened opens))
+opens_by {T} {E} {Inner} {InnerError} {Outer} {OuterError} {g} {f} {goes} {says} {finds} {names} {old} {mid} {new} {r} {p} {q} serves opens = opens_from (read_joined (is_read serves) (is_opened opens))

@@ -7,6 +7,7 @@ pub mod Fronts
 pub mod Gates
 pub mod HeldCalls
 pub mod HeldInside
+pub mod HeldLog
 pub mod HeldSession
 pub mod InRange
 pub mod Layout

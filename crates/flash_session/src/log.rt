@@ -5,6 +5,7 @@ ghost use Rattle.std.specs.Prelude.{slice_set, vec_len, vec_capacity};
 ghost use Rattle.flash_session.specs.Contents.{SameOutside, Same, Put};
 ghost use Rattle.flash_session.specs.Moments.{Elapses};
 ghost use Rattle.flash_session.specs.Log.{LeftSince, seen_in};
+ghost use Rattle.flash_session.specs.HeldLog.{HasTaken};
 
 /// One step: a byte was overwritten, at this place, and it was this; or all that was written was synced.
 #[derive(Clone, Copy)]
@@ -17,12 +18,9 @@ pub enum Step {
 fn note(log: &mut Vec<Step>, step: Step)
     requires { vec_len log.old < vec_capacity log.old }
     ensures log { log.new.items ≡ log.old.items ++ step ∷ [] }
-    ensures len { vec_len log.new ≡ vec_len log.old + 1 }
-    ensures capacity { vec_capacity log.old ≤ vec_capacity log.new }
+    ensures takes { HasTaken 1 log.old log.new }
 {
-    if log.push(step).is_err() {
-        unreachable!();
-    }
+    log.push(step).unwrap();
 }
 
 /// Writes one byte.
@@ -32,8 +30,7 @@ fn put(bytes: &mut [u8], log: &mut Vec<Step>, at: usize, byte: u8)
     requires room { vec_len log.old < vec_capacity log.old }
     ensures bytes { bytes.new ≡ slice_set bytes.old at byte }
     ensures log { log.new.items ≡ log.old.items ++ Step.Was at (get_or bytes.old at 0) ∷ [] }
-    ensures len { vec_len log.new ≡ vec_len log.old + 1 }
-    ensures capacity { vec_capacity log.old ≤ vec_capacity log.new }
+    ensures takes { HasTaken 1 log.old log.new }
 {
     note(log, Step::Was(at as u32, bytes[at]));
     bytes[at] = byte;
@@ -47,8 +44,7 @@ pub fn put_all(bytes: &mut [u8], log: &mut Vec<Step>, at: usize, piece: &[u8])
     ensures put { Put at piece.now bytes.old bytes.new }
     ensures stops { Elapses (SameOutside at (length piece.now)) (seen_in log.old.items bytes.old 0)
         (seen_in log.new.items bytes.new 0) }
-    ensures len { vec_len log.new ≡ vec_len log.old + length piece.now }
-    ensures capacity { vec_capacity log.old ≤ vec_capacity log.new }
+    ensures takes { HasTaken (length piece.now) log.old log.new }
 {
     for i in 0..piece.len() {
         put(bytes, log, at + i, piece[i]);
@@ -63,24 +59,21 @@ pub fn put_zeros(bytes: &mut [u8], log: &mut Vec<Step>, at: usize, n: usize)
     ensures put { Put at (replicate n 0) bytes.old bytes.new }
     ensures stops { Elapses (SameOutside at n) (seen_in log.old.items bytes.old 0)
         (seen_in log.new.items bytes.new 0) }
-    ensures len { vec_len log.new ≡ vec_len log.old + n }
-    ensures capacity { vec_capacity log.old ≤ vec_capacity log.new }
+    ensures takes { HasTaken n log.old log.new }
 {
     for i in 0..n {
         put(bytes, log, at + i, 0);
     }
 }
 
-/// Notes a sync.
-pub fn note_sync(bytes: &[u8], log: &mut Vec<Step>)
+/// Notes a sync, whatever the bytes are.
+pub fn note_sync(log: &mut Vec<Step>)
     requires room { vec_len log.old < vec_capacity log.old }
-    ensures kept { (c : List ℕ) → LeftSince log.new.items bytes.now (length log.new.items) c
-        → Same bytes.now c }
-    ensures stops { Elapses Same (seen_in log.old.items bytes.now 0)
-        (seen_in log.new.items bytes.now 0) }
-    ensures len { vec_len log.new ≡ vec_len log.old + 1 }
-    ensures capacity { vec_capacity log.old ≤ vec_capacity log.new }
+    ensures kept { (bytes c : List ℕ) → LeftSince log.new.items bytes (length log.new.items) c
+        → Same bytes c }
+    ensures stops { (bytes : List ℕ) → Elapses Same (seen_in log.old.items bytes 0)
+        (seen_in log.new.items bytes 0) }
+    ensures takes { HasTaken 1 log.old log.new }
 {
-    let _ = bytes;
     note(log, Step::Synced);
 }

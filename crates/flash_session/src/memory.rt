@@ -108,7 +108,7 @@ impl Flash for MemFlash {
         if self.schedule.fails_now(full) {
             return Err(Failed);
         }
-        note_sync(&self.bytes, &mut self.log);
+        note_sync(&mut self.log);
         Ok(())
     }
 }

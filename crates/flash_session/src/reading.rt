@@ -14,7 +14,7 @@ use crate::layout::OPEN;
 use frag_session::SetupReq;
 use memchr::memchr;
 
-/// How many gates are read at a time: a call of a part that lies behind a bus costs far more than a byte of its answer.
+/// How many gates are read at a time: a call over a bus costs far more than a byte of its answer.
 const STRETCH: usize = 64;
 
 /// The byte at a place.

@@ -50,8 +50,8 @@ pub fn store<F: Flash>(
     write_synced(flash, gate, &[OPEN])
 }
 
-/// Notes a fragment by tally gate `n` alone.
-pub fn tally<F: Flash>(flash: &mut F, base: u32, span: u32, n: u16) -> Result<(), Failed>
+/// Counts a fragment alone: opens count gate `n`.
+pub fn count_gate<F: Flash>(flash: &mut F, base: u32, span: u32, n: u16) -> Result<(), Failed>
     requires range { base + span ≤ (F.seen flash.old).room }
     requires long { records_place ≤ span }
     requires gate { n < most_tallies }

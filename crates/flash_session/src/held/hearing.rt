@@ -12,7 +12,7 @@ ghost use Rattle.frag_session.specs.Session.{Session, fragment, drop_cause, news
 
 use super::{Held, MAX_RECEIVED};
 use crate::flash::{Failed, Flash};
-use crate::storing::{store, tally};
+use crate::storing::{count_gate, store};
 use frag_session::{Heard, Idle, News, Via};
 
 impl<const W: usize, const B: usize> Held<W, B> {
@@ -93,7 +93,7 @@ impl<const W: usize, const B: usize> Held<W, B> {
                         heard,
                     ));
                 }
-                match tally(flash, base, span, tallies) {
+                match count_gate(flash, base, span, tallies) {
                     Ok(()) => Ok((
                         Held {
                             slot,

@@ -7,9 +7,9 @@ use Rattle.flash_session.proofs.Steps.{sync_stops, sync_keeps}
 use Rattle.flash_session.proofs.log.note_sync.Goals as goal
 
 pub returns-clause-kept : goal.returns-clause-kept
-returns-clause-kept c = λ b left. sync_keeps c.args.log.now.items c.args.bytes.now b
-    (subst (λ (l : List Step). LeftSince l c.args.bytes.now (length l) b) c.note.ensures.log left)
+returns-clause-kept c = λ bytes b left. sync_keeps c.args.log.now.items bytes b
+    (subst (λ (l : List Step). LeftSince l bytes (length l) b) c.note.ensures.log left)
 
 pub returns-clause-stops : goal.returns-clause-stops
-returns-clause-stops c = subst (λ (l : List Step). Elapses Same (seen_in c.args.log.now.items c.args.bytes.now 0) (seen_in l c.args.bytes.now 0))
-    (sym c.note.ensures.log) (sync_stops c.args.log.now.items c.args.bytes.now)
+returns-clause-stops c = λ bytes. subst (λ (l : List Step). Elapses Same (seen_in c.args.log.now.items bytes 0) (seen_in l bytes 0))
+    (sym c.note.ensures.log) (sync_stops c.args.log.now.items bytes)

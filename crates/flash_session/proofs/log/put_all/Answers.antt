@@ -18,6 +18,6 @@ loop-i-preserved c =
     record {
       put = subst (λ (l : List ℕ). Put c.args.at l c.args.bytes.now c.put.new.bytes) (sym (take_more piece i 0 c.loop-i-test.true)) longer;
       stops = stops_one_more c.args.at i (get_or piece i 0) _ c.loop-i.log.items c.put.new.log.items old c.put.new.bytes within c.put.ensures.bytes c.put.ensures.log c.loop-i.invariant.stops;
-      len = omega arith;
-      capacity = omega arith;
+      len = omega (arith, c.put.ensures.takes.len);
+      capacity = omega (arith, c.put.ensures.takes.capacity);
     }

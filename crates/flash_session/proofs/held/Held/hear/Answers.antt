@@ -32,8 +32,8 @@ returns-in-Dropped-clause-answer g c = rw (← c.self.view_is) (λ o held. slot_
 pub returns-in-Ok-clause-answer : goal.returns-in-Ok-clause-answer
 returns-in-Ok-clause-answer g c = rw (← c.self.view_is) (λ o held. slot_answer c.args.via c.args.n c.args.part.now c.args.mark _ o c.fragment-heard.result held c.fragment-heard.ensures.answer)
 
-pub returns-in-Ok-tally-clause-answer : goal.returns-in-Ok-tally-clause-answer
-returns-in-Ok-tally-clause-answer g c = rw (← c.self.view_is) (λ o held. slot_answer c.args.via c.args.n c.args.part.now c.args.mark _ o c.fragment-heard.result held c.fragment-heard.ensures.answer)
+pub returns-in-Ok-count_gate-clause-answer : goal.returns-in-Ok-count_gate-clause-answer
+returns-in-Ok-count_gate-clause-answer g c = rw (← c.self.view_is) (λ o held. slot_answer c.args.via c.args.n c.args.part.now c.args.mark _ o c.fragment-heard.result held c.fragment-heard.ensures.answer)
 
 pub invariant_of-result-in-Ok : goal.invariant_of-result-in-Ok
 invariant_of-result-in-Ok g c = record {
@@ -42,8 +42,8 @@ invariant_of-result-in-Ok g c = record {
   stands = stands_new c.args.via c.args.n c.args.part.now c.args.mark _ _ c.fragment-heard.ensures.extent c.fragment-heard.ensures.stands (search rules) (search rules) c.self.invariant.session c.self.invariant.stands (told_as c.args.via c.args.n c.args.part.now c.args.mark _ _ _ (c.in-Fed-New.is ∙ ap answer.Fed (rw c.in-Fed-New.is at c.in-Fed-New.field-0-is)) c.fragment-heard.ensures.answer);
 }
 
-pub invariant_of-result-in-Ok-tally : goal.invariant_of-result-in-Ok-tally
-invariant_of-result-in-Ok-tally g c = record {
+pub invariant_of-result-in-Ok-count_gate : goal.invariant_of-result-in-Ok-count_gate
+invariant_of-result-in-Ok-count_gate g c = record {
   long = c.self.invariant.long;
   session = after_fragment c.self.invariant.session c.args.via c.args.n c.args.part.now c.args.mark;
   stands = stands_old c.args.via c.args.n c.args.part.now c.args.mark _ _ c.fragment-heard.ensures.extent c.fragment-heard.ensures.stands (omega arith) c.self.invariant.session c.self.invariant.stands (told_as c.args.via c.args.n c.args.part.now c.args.mark _ _ _ (c.in-Fed-Old.is ∙ ap answer.Fed (rw c.in-Fed-Old.is at c.in-Fed-Old.field-0-is)) c.fragment-heard.ensures.answer);
@@ -85,31 +85,31 @@ returns-in-Err-clause-serves g c = rw (← c.self.view_is) (let fed = (told_as c
 })
 
 -- or it is counted
-pub returns-in-Ok-tally-clause-serves : goal.returns-in-Ok-tally-clause-serves
-returns-in-Ok-tally-clause-serves g c = rw (← c.self.view_is) (let fed = (told_as c.args.via c.args.n c.args.part.now c.args.mark _ _ _ (c.in-Fed-Old.is ∙ ap answer.Fed (rw c.in-Fed-Old.is at c.in-Fed-Old.field-0-is)) c.fragment-heard.ensures.answer) in record {
+pub returns-in-Ok-count_gate-clause-serves : goal.returns-in-Ok-count_gate-clause-serves
+returns-in-Ok-count_gate-clause-serves g c = rw (← c.self.view_is) (let fed = (told_as c.args.via c.args.n c.args.part.now c.args.mark _ _ _ (c.in-Fed-Old.is ∙ ap answer.Fed (rw c.in-Fed-Old.is at c.in-Fed-Old.field-0-is)) c.fragment-heard.ensures.answer) in record {
   stands = λ o held. stands_old c.args.via c.args.n c.args.part.now c.args.mark _ _ c.fragment-heard.ensures.extent c.fragment-heard.ensures.stands (omega arith) o held fed;
   counted = λ o held counts. counts_old c.args.via c.args.n c.args.part.now c.args.mark _ c.fragment-heard.new.self _ o held counts fed (inl refl);
-  acknowledged = λ o held. old_kept c.args.via c.args.n c.args.part.now c.args.mark _ _ o held fed (omega arith) c.fragment-heard.ensures.extent c.fragment-heard.ensures.stands c.in-Ok-tally.ensures.stored.acknowledged;
-  any_moment = λ o held. old_moments c.args.via c.args.n c.args.part.now c.args.mark _ o held fed c.tally.ensures.stored.any_moment;
+  acknowledged = λ o held. old_kept c.args.via c.args.n c.args.part.now c.args.mark _ _ o held fed (omega arith) c.fragment-heard.ensures.extent c.fragment-heard.ensures.stands c.in-Ok-count_gate.ensures.stored.acknowledged;
+  any_moment = λ o held. old_moments c.args.via c.args.n c.args.part.now c.args.mark _ o held fed c.count_gate.ensures.stored.any_moment;
   again = λ o held. tt;
-  others = λ at len was. kept_within at len (g.F.Flash.seen c.tally.new.flash) c.in-Ok-tally.ensures.kept;
+  others = λ at len was. kept_within at len (g.F.Flash.seen c.count_gate.new.flash) c.in-Ok-count_gate.ensures.kept;
   place = record { words_are = refl; bytes_are = refl; base_is = refl; span_is = refl; limits_are = refl; extent_is = c.fragment-heard.ensures.extent };
   extent = tt;
-  serves = serves_ok c.tally.ensures.stored.serves;
+  serves = serves_ok c.count_gate.ensures.stored.serves;
 })
 
-pub returns-in-Err-tally-clause-serves : goal.returns-in-Err-tally-clause-serves
-returns-in-Err-tally-clause-serves g c = rw (← c.self.view_is) (let fed = (told_as c.args.via c.args.n c.args.part.now c.args.mark _ _ _ (c.in-Fed-Old.is ∙ ap answer.Fed (rw c.in-Fed-Old.is at c.in-Fed-Old.field-0-is)) c.fragment-heard.ensures.answer) in record {
+pub returns-in-Err-count_gate-clause-serves : goal.returns-in-Err-count_gate-clause-serves
+returns-in-Err-count_gate-clause-serves g c = rw (← c.self.view_is) (let fed = (told_as c.args.via c.args.n c.args.part.now c.args.mark _ _ _ (c.in-Fed-Old.is ∙ ap answer.Fed (rw c.in-Fed-Old.is at c.in-Fed-Old.field-0-is)) c.fragment-heard.ensures.answer) in record {
   stands = λ o held. tt;
   counted = λ o held counts. tt;
   acknowledged = λ o held. tt;
-  any_moment = λ o held. old_moments c.args.via c.args.n c.args.part.now c.args.mark _ o held fed c.tally.ensures.stored.any_moment;
+  any_moment = λ o held. old_moments c.args.via c.args.n c.args.part.now c.args.mark _ o held fed c.count_gate.ensures.stored.any_moment;
   again = λ o held. given_too (OldOrNew _ o (After c.args.via c.args.n c.args.part.now c.args.mark o)) (same_old_new _ o (After c.args.via c.args.n c.args.part.now c.args.mark o))
-      (old_moments c.args.via c.args.n c.args.part.now c.args.mark _ o held fed c.tally.ensures.stored.any_moment) c.in-Err-tally.ensures.stored.serves.torn;
+      (old_moments c.args.via c.args.n c.args.part.now c.args.mark _ o held fed c.count_gate.ensures.stored.any_moment) c.in-Err-count_gate.ensures.stored.serves.torn;
   others = λ at len was. tt;
   place = tt;
-  extent = c.end-in-Err-tally.ensures ∙ c.fragment-heard.ensures.extent;
-  serves = serves_failed _ c.in-Err-tally.ensures.stored.serves;
+  extent = c.end-in-Err-count_gate.ensures ∙ c.fragment-heard.ensures.extent;
+  serves = serves_failed _ c.in-Err-count_gate.ensures.stored.serves;
 })
 
 -- or the count is full
@@ -150,11 +150,11 @@ returns-in-Ok-clause-same g c = λ d is. fed_dropped _ _ _ d c.in-Fed-New.is is
 pub returns-in-Ok-clause-full : goal.returns-in-Ok-clause-full
 returns-in-Ok-clause-full g c = λ over is. new_old _ _ (c.in-Fed-New.is ∙ ap answer.Fed (rw c.in-Fed-New.is at c.in-Fed-New.field-0-is)) is
 
-pub returns-in-Ok-tally-clause-dropped : goal.returns-in-Ok-tally-clause-dropped
-returns-in-Ok-tally-clause-dropped g c = λ d is. fed_dropped _ _ _ d c.in-Fed-Old.is is
+pub returns-in-Ok-count_gate-clause-dropped : goal.returns-in-Ok-count_gate-clause-dropped
+returns-in-Ok-count_gate-clause-dropped g c = λ d is. fed_dropped _ _ _ d c.in-Fed-Old.is is
 
-pub returns-in-Ok-tally-clause-same : goal.returns-in-Ok-tally-clause-same
-returns-in-Ok-tally-clause-same g c = λ d is. fed_dropped _ _ _ d c.in-Fed-Old.is is
+pub returns-in-Ok-count_gate-clause-same : goal.returns-in-Ok-count_gate-clause-same
+returns-in-Ok-count_gate-clause-same g c = λ d is. fed_dropped _ _ _ d c.in-Fed-Old.is is
 
 pub returns-then-records-tallies-clause-dropped : goal.returns-then-records-tallies-clause-dropped
 returns-then-records-tallies-clause-dropped g c = λ d is. refl

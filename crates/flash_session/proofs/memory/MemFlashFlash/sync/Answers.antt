@@ -6,4 +6,4 @@ pub returns-then-fails_now-clause-serves : goal.returns-then-fails_now-clause-se
 returns-then-fails_now-clause-serves c = rw (← c.self.view_is) (refused same_stays c.fails_now.ensures.kept c.if-fails_now.ensures.risen)
 
 pub returns-clause-serves : goal.returns-clause-serves
-returns-clause-serves c = rw (← c.self.view_is) (synced c.fails_now.ensures.kept (rw c.deref.ensures.value at c.note_sync.ensures.stops))
+returns-clause-serves c = rw (← c.self.view_is) (synced c.fails_now.ensures.kept (c.note_sync.ensures.stops _))

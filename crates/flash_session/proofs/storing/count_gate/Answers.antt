@@ -4,7 +4,7 @@ use Rattle.flash_session.proofs.Behind.{tally_left, tally_during, tally_read, ta
 use Rattle.flash_session.proofs.Moments.{begins}
 use Rattle.flash_session.proofs.Okay.{OnOk_both}
 use Rattle.flash_session.proofs.Serves.{in_range}
-use Rattle.flash_session.proofs.storing.tally.Goals as goal
+use Rattle.flash_session.proofs.storing.count_gate.Goals as goal
 
 pub returns-clause-stored : goal.returns-clause-stored
 returns-clause-stored g c = record {
