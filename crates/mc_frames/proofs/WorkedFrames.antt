@@ -1,18 +1,20 @@
 -- The worked codes, frames and faults, by computing.
-use Rattle.std.proofs.Common.{◌≡◌, [], ◌∷◌, refl}
+use Rattle.std.proofs.Common.{◌≡◌, [], ◌∷◌, ◌++◌, take, refl}
 use Rattle.aes_block.specs.Field.{xtime, sum_of_products, times, inverse, affine_bit, sub_byte}
 use Rattle.aes_block.specs.Cipher.{sub_bytes, shift_rows, mixed, mix_columns, add_round_key, next_words, words_from, after_round, cipher}
 use Rattle.wire_base.specs.Numbers.{number_at}
 use Rattle.mc_frames.specs.Cmac.{xor_blocks, shifted, subkey, last_block, chained, cmac}
 use Rattle.mc_frames.specs.Frames.{stream_byte, ciphered, message_of, mic, frame_of}
 use Rattle.mc_frames.specs.Opening.{fault_of, fault_without_group}
-use Rattle.mc_frames.specs.WorkedFrames.{worked_keys, worked_frame, pending_frame, WorkedCodes, WorkedFrames, WorkedFaults, WorkedOrder}
+use Rattle.mc_frames.specs.WorkedFrames.{worked_keys, worked_frame, pending_frame, long_payload, long_ciphered, long_frame, WorkedCodes, WorkedFrames, WorkedFaults, WorkedOrder}
 
 pub codes : WorkedCodes
 unfolding xtime sum_of_products times inverse affine_bit sub_byte sub_bytes shift_rows mixed mix_columns add_round_key next_words words_from after_round cipher xor_blocks shifted subkey last_block chained cmac
 codes = record {
   empty = refl;
   block = refl;
+  part = refl;
+  four = refl;
 }
 
 -- the payload encrypted, and the MIC of each message, by which the frames and their faults are known
@@ -40,6 +42,18 @@ pending : frame_of worked_keys 0x11223344 0x10 65537 201 (0xab ∷ 0xcd ∷ []) 
 unfolding message_of frame_of
 pending = rw (encrypted, pending_code) refl
 
+long_encrypted : ciphered worked_keys.app_s 0x11223344 65537 long_payload ≡ long_ciphered
+unfolding xtime sum_of_products times inverse affine_bit sub_byte sub_bytes shift_rows mixed mix_columns add_round_key next_words words_from after_round cipher ciphered
+long_encrypted = refl
+
+long_code : mic worked_keys 0x11223344 65537 (take 9 (worked_frame 0xec) ++ long_ciphered) ≡ 0xe0 ∷ 0xe5 ∷ 0x56 ∷ 0xd8 ∷ []
+unfolding xtime sum_of_products times inverse affine_bit sub_byte sub_bytes shift_rows mixed mix_columns add_round_key next_words words_from after_round cipher xor_blocks shifted subkey last_block chained cmac mic
+long_code = refl
+
+long : frame_of worked_keys 0x11223344 0x00 65537 201 long_payload ≡ long_frame
+unfolding message_of frame_of
+long = rw (long_encrypted, long_code) refl
+
 second_block : stream_byte worked_keys.app_s 0x11223344 0x01020304 16 ≡ 0xd3
 unfolding xtime sum_of_products times inverse affine_bit sub_byte sub_bytes shift_rows mixed mix_columns add_round_key next_words words_from after_round cipher
 second_block = refl
@@ -48,6 +62,7 @@ pub frames : WorkedFrames
 frames = record {
   frame = frame;
   pending = pending;
+  long = long;
   second_block = second_block;
 }
 
@@ -69,6 +84,9 @@ order = record {
   shortest = refl;
   long = refl;
   longest = refl;
+  ack = refl;
+  reserved = refl;
+  adr = refl;
   header = refl;
   address = refl;
   port = refl;
