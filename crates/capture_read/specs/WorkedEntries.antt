@@ -40,6 +40,8 @@ pub record WorkedRefusals : Type 0 where
   pub bad_text : entry_of (line_with (codes "1") (codes "\"up\",\"x\":\"" ++ 0xff ∷ codes "\"") (codes "\"\"")) ≡ Err fault.Syntax
   pub without_port : entry_of (codes "{\"dir\":\"up\",\"hex\":\"5a\"}") ≡ Err fault.Syntax
   pub other_direction : entry_of (line_with (codes "1") (codes "\"Up\"") (codes "\"5a\"")) ≡ Err fault.Syntax
+  pub capital_up : entry_of (line_with (codes "1") (codes "\"UP\"") (codes "\"5a\"")) ≡ Err fault.Syntax
+  pub capital_down : entry_of (line_with (codes "1") (codes "\"DOWN\"") (codes "\"5a\"")) ≡ Err fault.Syntax
   pub odd : entry_of (line_of_hex (codes "\"5\"")) ≡ Err fault.Syntax
   pub no_digit : entry_of (line_with (codes "256") (codes "\"up\"") (codes "\"5g\"")) ≡ Err fault.Syntax
   pub port_256 : entry_of (line_of_port (codes "256")) ≡ Err fault.Range
