@@ -213,10 +213,8 @@ fn zero_words<const N: usize>(words: &mut ArrayVec<u64, N>, n: usize)
     let mut done = 0;
     while done < n {
         let count = (n - done).min(32);
-        match words.try_extend_from_slice(&zeros[..count]) {
-            Ok(()) => done += count,
-            Err(_) => unreachable!(),
-        }
+        words.try_extend_from_slice(&zeros[..count]).unwrap();
+        done += count;
     }
 }
 
@@ -230,9 +228,7 @@ fn zero_bytes<const N: usize>(bytes: &mut ArrayVec<u8, N>, n: usize)
     let mut done = 0;
     while done < n {
         let count = (n - done).min(256);
-        match bytes.try_extend_from_slice(&zeros[..count]) {
-            Ok(()) => done += count,
-            Err(_) => unreachable!(),
-        }
+        bytes.try_extend_from_slice(&zeros[..count]).unwrap();
+        done += count;
     }
 }

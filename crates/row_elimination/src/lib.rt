@@ -25,6 +25,7 @@ mod stages;
 mod tables;
 mod taking;
 mod uncounted;
+mod widening;
 
 pub use solver::{MAX_FRAG_SIZE, Memory, NoRoom, Solver};
 pub use stages::{Fed, Stage};

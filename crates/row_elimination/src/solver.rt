@@ -10,9 +10,10 @@ ghost use Rattle.row_arena.specs.Limits.{max_bytes, max_words};
 ghost use Rattle.frag_model.specs.Limits.{max_frag_size, max_parity_index, max_pieces};
 
 use crate::stages::{Fed, Stage};
-use crate::tables::{Table, widen};
+use crate::tables::Table;
 use crate::taking::take;
 use crate::uncounted::{Counts, take_uncounted};
+use crate::widening::widen;
 use frag_model::lines::MAX_PIECES;
 use parity_lines::Steps;
 use row_arena::words_for;

@@ -1,35 +1,31 @@
 //! The table of all that is held: pieces in their area, and the rows in slots.
 
-ghost use Rattle.std.specs.Prelude.{◌≡◌, ℕ, ◌+◌, ◌-◌, ◌*◌, ◌<◌, ◌≤◌, ◌==◌, ◌++◌, length, get_or, set, replicate, take, true, false, IfOk, bit_xor, ◌^◌, MatchOption, vec_capacity};
-ghost use Rattle.frag_model.specs.Fragments.{Equation, IsPiece};
+ghost use Rattle.std.specs.Prelude.{◌≡◌, ◌-◌, ◌*◌, ◌<◌, ◌≤◌, ◌==◌, length, get_or, replicate, take, true, false, IfOk, MatchOption};
 ghost use Rattle.row_arena.specs.Limits.{max_bytes, max_words};
 ghost use Rattle.row_arena.specs.Rows.{has_room, line_in, words_for};
-ghost use Rattle.row_elimination.specs.HeldPlaces.{free, piece as known, is_piece, grown, pieces_held, rows_held, gained_held};
+ghost use Rattle.row_elimination.specs.HeldPlaces.{free, piece as known, is_piece, pieces_held, rows_held, gained_held};
 ghost use Rattle.row_elimination.specs.Inside.{IsReduced};
-ghost use Rattle.row_elimination.specs.HeldStorage.{chunk};
-ghost use Rattle.row_elimination.specs.HeldSteps.{Reduced, Knows, Tells};
-ghost use Rattle.row_elimination.specs.HeldTable.{Grid, SameRoom, max_line_words};
+ghost use Rattle.row_elimination.specs.HeldSteps.{Reduced};
+ghost use Rattle.row_elimination.specs.HeldTable.{Grid, max_line_words};
 ghost use Rattle.frag_model.specs.Limits.{max_pieces};
-ghost use Rattle.row_elimination.specs.Asked.{MayReduce, MayPush, MayLearn};
+ghost use Rattle.row_elimination.specs.Asked.{MayReduce};
 ghost use Rattle.row_elimination.specs.Work.{AddsColumns};
 
-use crate::additions::{add_piece, add_piece_and_row, add_row};
+mod filling;
+
 use crate::bytes::chunk;
 use crate::columns::{Column, PackedColumn};
-use crate::entries::put_parts;
 use crate::passes::reduce;
+use crate::widening::{forget, free_all, spare_all};
 use frag_model::lines::MAX_PIECES;
 use parity_lines::Steps;
-use row_arena::{RowArena, clear_bits, flip_bit, words_for};
+use row_arena::{RowArena, words_for};
 use std::alloc::{AllocError, Global};
 use std::marker::Model;
 use std::sync::ledger::Ledger;
 
 /// How many words of 64 columns the line of the largest file takes.
 pub const LINE_WORDS: usize = MAX_PIECES as usize / 64;
-
-/// How many bytes beyond a piece the area grows at once.
-const AHEAD: usize = 1792;
 
 /// All that is held of a file: a piece, a row or nothing for each of its columns. Rows have `W` words and `B` bytes in all.
 #[derive(Drop)]
@@ -217,197 +213,6 @@ impl<const W: usize, const B: usize> Table<W, B> {
         );
     }
 
-    /// Takes in a new row, which its column `p` leads, and counts the rows that it is added to.
-    pub fn push<M: Ledger>(&mut self, p: u16, line: &[u64], part: &[u8], sums: &mut Steps<M>)
-        requires { MayPush self.old p line.now part.now }
-        ensures grown { self.new
-            ≡ record self.old { places = grown p (line_in line.now) part.now self.old.places } }
-        ensures few { sums.new ≤ sums.old + self.old.shape.rows }
-    {
-        let slot = self.spare[self.count as usize];
-        add_row(
-            &mut self.columns,
-            &mut *self.arena,
-            slot,
-            p,
-            line,
-            part,
-            sums,
-        );
-        self.count += 1;
-        self.gained += 1;
-    }
-
-    /// Takes in a piece of which nothing is known, where no row is held.
-    pub fn put(&mut self, k: usize, piece: &[u8])
-        requires inside { k < self.old.shape.nb_frag }
-        requires piece { IsPiece self.old.shape.frag_size piece.now }
-        requires fresh { get_or self.old.places k free ≡ free }
-        requires none { rows_held self.old.places ≡ 0 }
-        ensures places { self.new.places ≡ set self.old.places k (known piece.now) }
-        ensures room { SameRoom self.old self.new }
-    {
-        self.reach_piece(k);
-        self.put_reached(k, piece);
-    }
-
-    /// The same, where the area reaches so far.
-    fn put_reached(&mut self, k: usize, piece: &[u8])
-        requires inside { k < self.old.shape.nb_frag }
-        requires reached { k * self.old.shape.frag_size + self.old.shape.frag_size
-            ≤ length self.old.area }
-        requires piece { IsPiece self.old.shape.frag_size piece.now }
-        requires fresh { get_or self.old.places k free ≡ free }
-        requires none { rows_held self.old.places ≡ 0 }
-        ensures places { self.new.places ≡ set self.old.places k (known piece.now) }
-        ensures room { SameRoom self.old self.new }
-    {
-        add_piece(
-            &mut self.columns,
-            self.nb_frag as usize,
-            &mut self.area,
-            k,
-            piece,
-        );
-        mark(&mut self.known, self.nb_frag, k);
-        self.gained += 1;
-    }
-
-    /// Takes in a piece and a new row that column `p` leads, which is the piece itself or takes the place of the row that
-    /// the piece's column led. Counts the rows that it is added to.
-    pub fn learn<M: Ledger>(
-        &mut self,
-        k: usize,
-        piece: &[u8],
-        p: u16,
-        line: &[u64],
-        part: &[u8],
-        sums: &mut Steps<M>,
-    )
-        requires { MayLearn self.old k piece.now p line.now part.now }
-        ensures places { self.new.places
-            ≡ set (grown p (line_in line.now) part.now self.old.places) k (known piece.now) }
-        ensures room { SameRoom self.old self.new }
-        ensures few { sums.new ≤ sums.old + self.old.shape.rows }
-    {
-        self.reach_piece(k);
-        self.learn_reached(k, piece, p, line, part, sums);
-    }
-
-    /// The same, where the area reaches so far.
-    fn learn_reached<M: Ledger>(
-        &mut self,
-        k: usize,
-        piece: &[u8],
-        p: u16,
-        line: &[u64],
-        part: &[u8],
-        sums: &mut Steps<M>,
-    )
-        requires reached { k * self.old.shape.frag_size + self.old.shape.frag_size
-            ≤ length self.old.area }
-        requires new { MayLearn self.old k piece.now p line.now part.now }
-        ensures places { self.new.places
-            ≡ set (grown p (line_in line.now) part.now self.old.places) k (known piece.now) }
-        ensures room { SameRoom self.old self.new }
-        ensures few { sums.new ≤ sums.old + self.old.shape.rows }
-    {
-        add_piece_and_row(
-            &mut self.columns,
-            &mut self.area,
-            &mut *self.arena,
-            k,
-            piece,
-            p,
-            line,
-            part,
-            sums,
-        );
-        mark(&mut self.known, self.nb_frag, k);
-        self.gained += 1;
-    }
-
-    /// Takes in a piece that the equations tell already.
-    pub fn settle(&mut self, k: usize, piece: &[u8])
-        requires known { Knows self.old.shape self.old.places k piece.now }
-        ensures places { self.new.places ≡ set self.old.places k (known piece.now) }
-        ensures room { SameRoom self.old self.new }
-    {
-        self.reach_piece(k);
-        self.settle_reached(k, piece);
-    }
-
-    /// The same, where the area reaches so far.
-    fn settle_reached(&mut self, k: usize, piece: &[u8])
-        requires reached { k * self.old.shape.frag_size + self.old.shape.frag_size
-            ≤ length self.old.area }
-        requires known { Knows self.old.shape self.old.places k piece.now }
-        ensures places { self.new.places ≡ set self.old.places k (known piece.now) }
-        ensures room { SameRoom self.old self.new }
-    {
-        if let Column::Row(slot) = self.columns[k].column() {
-            add_piece(
-                &mut self.columns,
-                self.nb_frag as usize,
-                &mut self.area,
-                k,
-                piece,
-            );
-            mark(&mut self.known, self.nb_frag, k);
-            self.count -= 1;
-            self.spare[self.count as usize] = slot;
-        }
-    }
-
-    /// Puts the parts of all rows into the area, as the pieces of the columns that lead them.
-    pub fn finish(&mut self)
-        ensures places { self.new.places ≡ self.old.places }
-        ensures parts { (c : ℕ) (e : Equation) → Tells self.old.places c e
-            → chunk c self.old.shape.frag_size self.new.area ≡ e.part }
-        ensures room { SameRoom self.old self.new }
-    {
-        self.reach(self.nb_frag as usize * self.frag_size as usize);
-        self.finish_reached();
-    }
-
-    /// The same, where the area reaches to the last piece.
-    fn finish_reached(&mut self)
-        requires reached { self.old.shape.nb_frag * self.old.shape.frag_size
-            ≤ length self.old.area }
-        ensures places { self.new.places ≡ self.old.places }
-        ensures parts { (c : ℕ) (e : Equation) → Tells self.old.places c e
-            → chunk c self.old.shape.frag_size self.new.area ≡ e.part }
-        ensures room { SameRoom self.old self.new }
-    {
-        let columns = &self.columns[..self.nb_frag as usize];
-        put_parts(columns, &mut self.area, &*self.arena);
-    }
-
-    /// The area reaches to the end of piece `k` from now on.
-    fn reach_piece(&mut self, k: usize)
-        requires inside { k < self.old.shape.nb_frag }
-        ensures places { self.new.places ≡ self.old.places }
-        ensures room { SameRoom self.old self.new }
-        ensures reached { k * self.old.shape.frag_size + self.old.shape.frag_size
-            ≤ length self.new.area }
-    {
-        let size = self.frag_size as usize;
-        let end = k * size + size;
-        if self.area.len() < end {
-            self.reach((end + AHEAD).min(self.nb_frag as usize * size));
-        }
-    }
-
-    /// The area has so many bytes of the pieces, or more, from now on.
-    fn reach(&mut self, n: usize)
-        requires inside { n ≤ self.old.shape.nb_frag * self.old.shape.frag_size }
-        ensures places { self.new.places ≡ self.old.places }
-        ensures room { SameRoom self.old self.new }
-        ensures reached { n ≤ length self.new.area }
-    {
-        widen(&mut self.area, n, 0);
-    }
-
     /// Holds nothing any more, and takes fragments of another file.
     pub fn begin(&mut self, nb_frag: u16, frag_size: u8, rows: u16)
         requires most { nb_frag ≤ self.old.room.pieces }
@@ -430,71 +235,4 @@ impl<const W: usize, const B: usize> Table<W, B> {
         self.count = 0;
         self.gained = 0;
     }
-}
-
-/// Has so many items at least; there is memory for them.
-pub fn widen<T: Copy>(items: &mut Vec<T>, n: usize, new: T)
-    requires { n ≤ vec_capacity items.old }
-    ensures enough { n ≤ length items.new.items }
-    ensures value { items.new.items
-        ≡ items.old.items ++ replicate (n - length items.old.items) new }
-    ensures capacity { vec_capacity items.old ≤ vec_capacity items.new }
-{
-    if items.len() < n && items.resize(n, new).is_err() {
-        unreachable!();
-    }
-}
-
-/// Has so many columns, of which nothing is kept; there is memory for them.
-fn free_all(columns: &mut Vec<PackedColumn>, n: usize)
-    requires { n ≤ vec_capacity columns.old }
-    ensures free { columns.new.items ≡ replicate n Column.Free }
-    ensures capacity { vec_capacity columns.old ≤ vec_capacity columns.new }
-{
-    columns.clear();
-    if columns.resize(n, PackedColumn::new(Column::Free)).is_err() {
-        unreachable!();
-    }
-}
-
-/// Has so many slots, none of which is in use; there is memory for them.
-fn spare_all(spare: &mut Vec<u16>, rows: u16)
-    requires { rows ≤ vec_capacity spare.old }
-    ensures enough { rows ≤ length spare.new.items }
-    ensures each { (i : ℕ) → i < rows → get_or spare.new.items i 0 ≡ i }
-    ensures capacity { vec_capacity spare.old ≤ vec_capacity spare.new }
-{
-    widen(spare, rows as usize, 0);
-    count_up(spare, rows);
-}
-
-/// Has so many words at least, and no column in any; there is memory for them.
-fn forget(known: &mut Vec<u64>, words: usize)
-    requires { words ≤ vec_capacity known.old }
-    ensures enough { words ≤ length known.new.items }
-    ensures none { line_in known.new.items ≡ 0 }
-    ensures capacity { vec_capacity known.old ≤ vec_capacity known.new }
-{
-    widen(known, words, 0);
-    clear_bits(known);
-}
-
-/// Writes its own place to each of so many; what lies after them is not used.
-fn count_up(spare: &mut [u16], rows: u16)
-    requires { rows ≤ length spare.old }
-    ensures { (i : ℕ) → i < rows → get_or spare.new i 0 ≡ i }
-{
-    for i in 0..rows {
-        spare[i as usize] = i;
-    }
-}
-
-/// Marks column `k` of a line, which does not have it, among the words that a line of so many columns takes.
-fn mark(known: &mut [u64], cols: u16, k: usize)
-    requires words { words_for cols ≤ length known.old }
-    requires inside { k < cols }
-    ensures { line_in (take (words_for cols) known.new)
-        ≡ bit_xor (line_in (take (words_for cols) known.old)) (2 ^ k) }
-{
-    flip_bit(&mut known[..words_for(cols)], k);
 }

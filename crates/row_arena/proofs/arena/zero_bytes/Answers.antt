@@ -9,5 +9,5 @@ loop-done-preserved g c =
     let more : take some (replicate {A = ℕ} 256 0) ≡ replicate some 0 = take-replicate some 256 0 few in
     record {
       within = omega arith;
-      zeros = c.in-Ok.ensures.ok ∙ ap₂ (λ (xs ys : List ℕ). xs ++ ys) c.loop-done.invariant.zeros more ∙ replicate-append-replicate c.loop-done.done some 0;
+      zeros = (rw c.unwrap.ensures at c.try_extend_from_slice.ensures.ok) ∙ ap₂ (λ (xs ys : List ℕ). xs ++ ys) c.loop-done.invariant.zeros more ∙ replicate-append-replicate c.loop-done.done some 0;
     }

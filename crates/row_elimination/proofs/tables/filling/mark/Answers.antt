@@ -2,7 +2,7 @@ use Rattle.std.proofs.Common.{ℕ, take, bit_xor, ◌^◌, ap, ◌∙◌, arith,
 use Rattle.row_arena.specs.Rows.{line_in, words_for}
 use Rattle.row_elimination.proofs.Adding.{written_first}
 use Rattle.row_elimination.proofs.Gridding.{width_holds}
-use Rattle.row_elimination.proofs.tables.mark.Goals as goal
+use Rattle.row_elimination.proofs.tables.filling.mark.Goals as goal
 
 pub flip_bit-requires : goal.flip_bit-requires
 flip_bit-requires c =
