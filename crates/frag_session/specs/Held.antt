@@ -30,6 +30,10 @@ pub record Failed : Type 0 where
 unfoldable pub one_more : ℕ → ℕ
 one_more received = min (received + 1) max_received
 
+-- one that counts one fragment more
+abbrev pub after_one : Failed → Failed
+after_one failed = record failed { received = one_more failed.received }
+
 -- what a slot keeps: what there is memory for while no session lives, or a session
 pub data HeldSlot : Type 0 where
   idle : Extent → HeldSlot

@@ -1,14 +1,21 @@
 -- What the states of a session show.
-use Rattle.std.specs.Prelude.{◌-◌, [], take, length}
+use Rattle.std.specs.Prelude.{◌≡◌, ℕ, ◌-◌, ◌≤◌, [], take, length}
 use Rattle.row_elimination.specs.HeldSolver.{missing_of}
 use Rattle.frag_session.specs.declared.answers.View.{View}
 use Rattle.frag_session.specs.declared.answers.Verdict.TheVariants as shown
 use Rattle.frag_session.specs.Held.{Held, Done, Failed}
+use Rattle.frag_session.specs.Limits.{max_received}
 use Rattle.frag_session.specs.Session.{Seen}
 
 -- a view as data
 unfoldable pub seen : View → Seen
 seen v = record { received = v.received; missing = v.missing; verdict = v.verdict; file = v.file.now }
+
+-- a view shows this, over an area of so many bytes
+pub record Shows (what : Seen) (area : ℕ) (view : View) : Type 0 where
+  pub value : seen view ≡ what
+  pub within : length view.file.now ≤ area
+  pub few : view.received ≤ max_received
 
 -- while it hears: what is still to be gained is missing, and there is no file
 unfoldable pub receiving_seen : Held → Seen

@@ -2,7 +2,7 @@
 
 ghost use Rattle.std.specs.Prelude.{◌≡◌, ◌*◌, ◌<◌, ◌≤◌, length};
 ghost use Rattle.frag_session.specs.Held.{one_more};
-ghost use Rattle.frag_session.specs.HeldView.{done_seen, seen};
+ghost use Rattle.frag_session.specs.HeldView.{done_seen, Shows};
 ghost use Rattle.frag_session.specs.Limits.{max_received};
 
 use crate::answers::{Verdict, View};
@@ -88,9 +88,7 @@ impl<const W: usize, const B: usize> Complete<W, B> {
 
     #[tactic(auto, unfolding(crate::specs::HeldView::seen, crate::specs::HeldView::done_seen))]
     pub(crate) fn view(&self) -> View<'_>
-        ensures value { seen result ≡ done_seen self.now }
-        ensures within { length result.file.now ≤ self.now.solver.extent.area }
-        ensures few { result.received ≤ max_received }
+        ensures { Shows (done_seen self.now) self.now.solver.extent.area result }
     {
         let block = self.solver.block();
         View {

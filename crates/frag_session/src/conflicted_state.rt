@@ -1,9 +1,9 @@
 //! A session whose fragments contradict one another.
 
-ghost use Rattle.std.specs.Prelude.{◌≡◌, ◌≤◌, length};
+ghost use Rattle.std.specs.Prelude.{◌≡◌, ◌≤◌};
 ghost use Rattle.row_elimination.specs.HeldSolver.{missing_of};
-ghost use Rattle.frag_session.specs.Held.{one_more};
-ghost use Rattle.frag_session.specs.HeldView.{failed_seen, seen};
+ghost use Rattle.frag_session.specs.Held.{after_one};
+ghost use Rattle.frag_session.specs.HeldView.{failed_seen, Shows};
 ghost use Rattle.frag_session.specs.Limits.{max_received};
 
 use crate::answers::{Verdict, View};
@@ -85,16 +85,14 @@ impl<const W: usize, const B: usize> Conflicted<W, B> {
 
     /// Counts one fragment more.
     pub(crate) fn count(&mut self)
-        ensures { self.new ≡ record self.old { received = one_more self.old.received } }
+        ensures { self.new ≡ after_one self.old }
     {
         self.received = one_more(self.received);
     }
 
     #[tactic(auto, unfolding(crate::specs::HeldView::seen, crate::specs::HeldView::failed_seen))]
     pub(crate) fn view(&self) -> View<'_>
-        ensures value { seen result ≡ failed_seen self.now }
-        ensures within { length result.file.now ≤ self.now.solver.extent.area }
-        ensures few { result.received ≤ max_received }
+        ensures { Shows (failed_seen self.now) self.now.solver.extent.area result }
     {
         View {
             received: self.received,

@@ -14,12 +14,14 @@
 mod answers;
 mod complete_state;
 mod conflicted_state;
+mod dropping;
 mod idle_state;
 mod laws;
 mod overflowed_state;
 mod receiving_state;
 mod setups;
 mod slots;
+mod statuses;
 
 pub use answers::{Cause, Heard, News, StatusAns, Verdict, Via, View};
 pub use complete_state::Complete;

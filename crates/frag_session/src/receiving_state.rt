@@ -6,9 +6,8 @@ ghost use Rattle.frag_session.specs.Held.{one_more, receiving};
 ghost use Rattle.frag_session.specs.Session.{Session, followed};
 ghost use Rattle.frag_session.specs.HeldHistory.{Holds, IsOpen, Stands};
 ghost use Rattle.frag_session.specs.HeldSteps.{extent_of, become, told_of};
-ghost use Rattle.frag_session.specs.HeldView.{receiving_seen, seen};
+ghost use Rattle.frag_session.specs.HeldView.{receiving_seen, Shows};
 ghost use Rattle.frag_model.specs.Limits.{max_parity_index};
-ghost use Rattle.frag_session.specs.Limits.{max_received};
 
 use crate::answers::{Verdict, View};
 use crate::complete_state::Complete;
@@ -126,9 +125,7 @@ impl<const W: usize, const B: usize> Receiving<W, B> {
 
     #[tactic(auto, unfolding(crate::specs::HeldView::seen, crate::specs::HeldView::receiving_seen))]
     pub(crate) fn view(&self) -> View<'_>
-        ensures value { seen result ≡ receiving_seen self.now }
-        ensures within { length result.file.now ≤ self.now.solver.extent.area }
-        ensures few { result.received ≤ max_received }
+        ensures { Shows (receiving_seen self.now) self.now.solver.extent.area result }
     {
         View {
             received: self.received,

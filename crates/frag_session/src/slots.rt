@@ -2,21 +2,22 @@
 
 ghost use Rattle.std.specs.Prelude.{◌≡◌, ◌<◌, ◌≢◌, ◌≤◌, Option, None, Some, IfSome, is_some, length, option_map};
 ghost use Rattle.frag_session.specs.Setup.{memory_room, setup_bits, lives};
-ghost use Rattle.frag_session.specs.Session.{Session, new_session, followed, excludes, cause_of, drop_cause, answer_of, news_in, after_setup, after_fragment, view_of, status_by, status_in, status_of, is_overflow};
+ghost use Rattle.frag_session.specs.Session.{Session, new_session, followed, drop_cause, answer_of, news_in, after_setup, after_fragment, view_of, status_of};
 ghost use Rattle.frag_session.specs.Held.{idle};
-ghost use Rattle.frag_session.specs.HeldSteps.{extent_of, session_setup, slot_cause, kept, become, CanHear, slot_seen, told_of, news_between};
+ghost use Rattle.frag_session.specs.HeldSteps.{extent_of, session_setup, kept, become, CanHear, slot_seen, told_of, news_between};
 ghost use Rattle.frag_session.specs.HeldView.{seen};
 ghost use Rattle.frag_session.specs.HeldHistory.{Stands};
 ghost use Rattle.frag_session.specs.Limits.{max_received};
 
-use crate::answers::{Cause, Heard, News, StatusAns, Verdict, Via, View};
+use crate::answers::{Heard, News, StatusAns, Via, View};
 use crate::complete_state::Complete;
 use crate::conflicted_state::Conflicted;
+use crate::dropping::dropped;
 use crate::idle_state::Idle;
 use crate::overflowed_state::Overflowed;
 use crate::receiving_state::{Next, Receiving};
 use crate::setups::{Limits, SetupReq, lives, refusal};
-use frag_model::lines::MAX_PARITY_INDEX;
+use crate::statuses::status_in;
 use std::marker::Model;
 
 /// What a slot holds.
@@ -318,44 +319,6 @@ fn renewed<const W: usize, const B: usize>(
     }
 }
 
-/// The first cause for which a fragment is dropped.
-#[tactic(auto, unfolding(crate::specs::HeldSteps::slot_cause))]
-fn dropped(session: Option<SetupReq>, via: Via, n: u16, part: &[u8]) -> Option<Cause>
-    ensures { result ≡ slot_cause session via n part.now }
-{
-    match session {
-        None => Some(Cause::NoSession),
-        Some(setup) => cause(setup, via, n, part),
-    }
-}
-
-/// The first cause for which a session with this setup drops a fragment.
-#[tactic(auto, unfolding(crate::specs::Session::cause_of))]
-fn cause(setup: SetupReq, via: Via, n: u16, part: &[u8]) -> Option<Cause>
-    ensures { result ≡ cause_of setup via n part.now }
-{
-    if excludes(setup.mask, via) {
-        Some(Cause::Group)
-    } else if n == 0 || u32::from(n) > u32::from(setup.nb_frag) + u32::from(MAX_PARITY_INDEX) {
-        Some(Cause::Index)
-    } else if part.len() != setup.frag_size as usize {
-        Some(Cause::Size)
-    } else {
-        None
-    }
-}
-
-/// Whether a mask keeps out what came this way.
-#[tactic(auto, unfolding(crate::specs::Session::excludes))]
-fn excludes(mask: u8, via: Via) -> bool
-    ensures { result ≡ excludes mask via }
-{
-    match via {
-        Via::Unicast => false,
-        Via::Group(group) => group >= 8 || mask >> group & 1 == 0,
-    }
-}
-
 /// The state after a fragment that is heard.
 fn fed<const W: usize, const B: usize>(
     state: State<W, B>,
@@ -395,41 +358,5 @@ fn state_of<const W: usize, const B: usize>(next: Next<W, B>) -> State<W, B>
         Next::Complete(complete) => State::Complete(complete),
         Next::Overflowed(overflowed) => State::Overflowed(overflowed),
         Next::Conflicted(conflicted) => State::Conflicted(conflicted),
-    }
-}
-
-/// The answer of a session with this setup, of which this is seen.
-#[tactic(auto, unfolding(crate::specs::Session::status_in, crate::specs::HeldView::seen))]
-fn status_in(setup: SetupReq, view: &View, via: Via, all: bool) -> Option<StatusAns>
-    ensures answer { result ≡ status_in setup (seen view.now) via all }
-    ensures received { IfSome result (λ a. a.received ≡ view.now.received) }
-{
-    if excludes(setup.mask, via) || !all && view.missing == 0 {
-        return None;
-    }
-    Some(status(view, setup.delay))
-}
-
-/// The status of what is seen.
-#[tactic(auto, unfolding(crate::specs::Session::status_by, crate::specs::HeldView::seen))]
-fn status(view: &View, delay: u8) -> StatusAns
-    ensures answer { result ≡ status_by (seen view.now) delay }
-    ensures received { result.received ≡ view.now.received }
-{
-    StatusAns {
-        received: view.received,
-        missing: view.missing.min(255) as u8,
-        norows: is_overflow(view.verdict),
-        delay,
-    }
-}
-
-/// Whether the memory did not suffice.
-fn is_overflow(verdict: Verdict) -> bool
-    ensures { result ≡ is_overflow verdict }
-{
-    match verdict {
-        Verdict::NoRows(_) => true,
-        _ => false,
     }
 }

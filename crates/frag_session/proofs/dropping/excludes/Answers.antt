@@ -2,7 +2,7 @@ use Rattle.std.proofs.Common.{sym, ◌∙◌, le-leb, eq-eqb, arith}
 use Rattle.std.specs.Int.{bit_at}
 use Rattle.std.proofs.lemmas.Nat.Bits.{bit_at_above}
 use Rattle.frag_session.specs.Session.{excludes}
-use Rattle.frag_session.proofs.slots.excludes.Goals as goal
+use Rattle.frag_session.proofs.dropping.excludes.Goals as goal
 
 pub returns-then-group-ge8 : goal.returns-then-group-ge8
 unfolding excludes
