@@ -3,7 +3,7 @@
 ghost use Rattle.std.specs.Prelude.{◌≡◌, ℕ, List, ◌+◌, ◌<◌, ◌≤◌, length, bit_xor};
 ghost use Rattle.std.specs.Simd.Lanes.{zip2};
 ghost use Rattle.row_arena.specs.Rows.{line_in};
-ghost use Rattle.row_arena.specs.Steps.{AddedTo};
+ghost use Rattle.row_arena.specs.Steps.{AddedTo, AddsRest};
 
 use std::simd::prelude::*;
 
@@ -34,8 +34,7 @@ fn in_lanes(into: &mut [u8], from: &[u8])
 fn rest_16(into: &mut [u8], from: &[u8], at: usize)
     requires same { length into.old ≡ length from.now }
     requires inside { at ≤ length from.now }
-    ensures { (old : List ℕ) → AddedTo at old from.now into.old
-        → AddedTo (length from.now) old from.now into.new }
+    ensures { AddsRest at from.now into.old into.new }
 {
     if from.len() - at >= 16 {
         let sum = u8x16::from_slice(&into[at..]) ^ u8x16::from_slice(&from[at..]);
@@ -50,8 +49,7 @@ fn rest_16(into: &mut [u8], from: &[u8], at: usize)
 fn rest_8(into: &mut [u8], from: &[u8], at: usize)
     requires same { length into.old ≡ length from.now }
     requires inside { at ≤ length from.now }
-    ensures { (old : List ℕ) → AddedTo at old from.now into.old
-        → AddedTo (length from.now) old from.now into.new }
+    ensures { AddsRest at from.now into.old into.new }
 {
     if from.len() - at >= 8 {
         let sum = u8x8::from_slice(&into[at..]) ^ u8x8::from_slice(&from[at..]);
@@ -66,8 +64,7 @@ fn rest_8(into: &mut [u8], from: &[u8], at: usize)
 fn rest_4(into: &mut [u8], from: &[u8], at: usize)
     requires same { length into.old ≡ length from.now }
     requires inside { at ≤ length from.now }
-    ensures { (old : List ℕ) → AddedTo at old from.now into.old
-        → AddedTo (length from.now) old from.now into.new }
+    ensures { AddsRest at from.now into.old into.new }
 {
     if from.len() - at >= 4 {
         let sum = u8x4::from_slice(&into[at..]) ^ u8x4::from_slice(&from[at..]);
@@ -82,8 +79,7 @@ fn rest_4(into: &mut [u8], from: &[u8], at: usize)
 fn rest_plain(into: &mut [u8], from: &[u8], at: usize)
     requires same { length into.old ≡ length from.now }
     requires inside { at ≤ length from.now }
-    ensures { (old : List ℕ) → AddedTo at old from.now into.old
-        → AddedTo (length from.now) old from.now into.new }
+    ensures { AddsRest at from.now into.old into.new }
 {
     for i in at..from.len() {
         into[i] ^= from[i];

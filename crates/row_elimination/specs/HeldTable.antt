@@ -1,11 +1,11 @@
 -- The table as a value, and what its fields keep true.
-use Rattle.std.specs.Prelude.{◌≡◌, ℕ, ◌*◌, ◌/◌, ◌≤◌, List, length, take}
+use Rattle.std.specs.Prelude.{◌≡◌, ℕ, ◌*◌, ◌/◌, ◌≤◌, List, length, take, set}
 use Rattle.frag_model.specs.Fragments.{Shape}
 use Rattle.frag_model.specs.Limits.{max_pieces}
 use Rattle.row_arena.specs.Limits.{max_bytes, max_words}
 use Rattle.row_arena.specs.Rows.{Arena, line_in, words_for}
 use Rattle.row_elimination.specs.declared.columns.Column.{Column}
-use Rattle.row_elimination.specs.HeldPlaces.{Place, rows_held, gained_held}
+use Rattle.row_elimination.specs.HeldPlaces.{Place, piece, rows_held, gained_held}
 use Rattle.row_elimination.specs.Inside.{IsReduced, Marks}
 use Rattle.row_elimination.specs.HeldStorage.{places_in, Slots}
 use Rattle.row_elimination.specs.Room.{Extent}
@@ -60,3 +60,8 @@ pub record IsTable (words bytes nb_frag size rows count gained most room columns
 pub record SameRoom (old new : Grid) : Type 0 where
   pub shape : new.shape ≡ old.shape
   pub room : new.room ≡ old.room
+
+-- the piece of a column was put in
+pub record IsPut (k : ℕ) (part : List ℕ) (old new : Grid) : Type 0 where
+  pub places : new.places ≡ set old.places k (piece part)
+  pub room : SameRoom old new

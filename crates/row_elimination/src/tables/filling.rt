@@ -6,7 +6,7 @@ ghost use Rattle.row_arena.specs.Rows.{line_in, words_for};
 ghost use Rattle.row_elimination.specs.HeldPlaces.{free, piece as known, grown, rows_held};
 ghost use Rattle.row_elimination.specs.HeldStorage.{chunk};
 ghost use Rattle.row_elimination.specs.HeldSteps.{Knows, Tells};
-ghost use Rattle.row_elimination.specs.HeldTable.{SameRoom};
+ghost use Rattle.row_elimination.specs.HeldTable.{IsPut, SameRoom};
 ghost use Rattle.row_elimination.specs.Asked.{MayPush, MayLearn};
 
 use super::Table;
@@ -49,8 +49,7 @@ impl<const W: usize, const B: usize> Table<W, B> {
         requires piece { IsPiece self.old.shape.frag_size piece.now }
         requires fresh { get_or self.old.places k free ≡ free }
         requires none { rows_held self.old.places ≡ 0 }
-        ensures places { self.new.places ≡ set self.old.places k (known piece.now) }
-        ensures room { SameRoom self.old self.new }
+        ensures { IsPut k piece.now self.old self.new }
     {
         self.reach_piece(k);
         self.put_reached(k, piece);
@@ -64,8 +63,7 @@ impl<const W: usize, const B: usize> Table<W, B> {
         requires piece { IsPiece self.old.shape.frag_size piece.now }
         requires fresh { get_or self.old.places k free ≡ free }
         requires none { rows_held self.old.places ≡ 0 }
-        ensures places { self.new.places ≡ set self.old.places k (known piece.now) }
-        ensures room { SameRoom self.old self.new }
+        ensures { IsPut k piece.now self.old self.new }
     {
         add_piece(
             &mut self.columns,
@@ -135,8 +133,7 @@ impl<const W: usize, const B: usize> Table<W, B> {
     /// Takes in a piece that the equations tell already.
     pub fn settle(&mut self, k: usize, piece: &[u8])
         requires known { Knows self.old.shape self.old.places k piece.now }
-        ensures places { self.new.places ≡ set self.old.places k (known piece.now) }
-        ensures room { SameRoom self.old self.new }
+        ensures { IsPut k piece.now self.old self.new }
     {
         self.reach_piece(k);
         self.settle_reached(k, piece);
@@ -147,8 +144,7 @@ impl<const W: usize, const B: usize> Table<W, B> {
         requires reached { k * self.old.shape.frag_size + self.old.shape.frag_size
             ≤ length self.old.area }
         requires known { Knows self.old.shape self.old.places k piece.now }
-        ensures places { self.new.places ≡ set self.old.places k (known piece.now) }
-        ensures room { SameRoom self.old self.new }
+        ensures { IsPut k piece.now self.old self.new }
     {
         if let Column::Row(slot) = self.columns[k].column() {
             add_piece(

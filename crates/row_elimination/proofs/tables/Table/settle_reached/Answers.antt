@@ -1,4 +1,4 @@
-use Rattle.std.proofs.Common.{◌≡◌, ◌-◌, ◌≤◌, ◌^◌, ℕ, List, bit_xor, length, get_or, take, set, sym, ap, subst, ◌∙◌, arith}
+use Rattle.std.proofs.Common.{◌≡◌, ◌-◌, ◌≤◌, ◌^◌, ℕ, List, bit_xor, length, get_or, take, set, refl, sym, ap, subst, ◌∙◌, arith}
 use Rattle.frag_model.specs.Fragments.{Shape}
 use Rattle.row_arena.specs.Rows.{line_in, words_for}
 use Rattle.row_elimination.specs.declared.columns.Column.{Column}
@@ -75,8 +75,8 @@ pub mark-requires-clause-words : goal.mark-requires-clause-words
 mark-requires-clause-words g c =
     omega (arith, ap length c.deref_mut-in-Row-2.ensures.value, c.self.invariant.grid.known_sized)
 
-pub returns-in_default-clause-places : goal.returns-in_default-clause-places
-returns-in_default-clause-places g c =
+pub returns-in_default : goal.returns-in_default
+returns-in_default g c =
     let nb : ℕ = c.self.inside.nb_frag in
     let shape : Shape = record { nb_frag = nb; frag_size = c.self.inside.frag_size; rows = c.self.inside.rows } in
     let columns : List Column = c.self.inside.columns.items in
@@ -85,8 +85,11 @@ returns-in_default-clause-places g c =
     let known : Knows shape ps c.args.k c.args.piece.now = subst (λ (g : Grid). Knows g.shape g.places c.args.k c.args.piece.now) (sym c.self.view_is) c.requires.known in
     let at : get_or os c.args.k Free ≡ c.index.result.now =
     column_read columns nb c.args.k c.index.result.now known.inside (omega (arith, c.self.invariant.grid.most, c.self.invariant.grid.columns_sized)) c.index.ensures in
-    subst (λ (g : Grid). g.places ≡ set g.places c.args.k (piece c.args.piece.now)) c.self.view_is
-    (settled_already shape c.self.inside.area.items c.self.inside.arena.value os c.args.k c.args.piece.now known (λ slot e. c.in_default.not-Row slot (c.column.ensures.same ∙ sym at ∙ e)))
+    record {
+      places = subst (λ (g : Grid). g.places ≡ set g.places c.args.k (piece c.args.piece.now)) c.self.view_is
+          (settled_already shape c.self.inside.area.items c.self.inside.arena.value os c.args.k c.args.piece.now known (λ slot e. c.in_default.not-Row slot (c.column.ensures.same ∙ sym at ∙ e)));
+      room = record { shape = refl; room = refl };
+    }
 
 pub index_mut-requires : goal.index_mut-requires
 index_mut-requires g c =
