@@ -16,16 +16,16 @@ use Rattle.session_store.specs.SessionTable.{SessionTable}
 module _ {F A : Type 0} (seen : F → FlashSeen) (made : Layout → (held : Bool) → SessionTable → SessionTable) (left : Layout → (old new : SessionTable) → List ℕ → Type 0) (old new : HeldStore F) (p q : HeldPlaces)
     (there : old.state ≡ Flash p) (placed : p.layout ≡ old.layout) (laid : new.layout ≡ old.layout) (held : old.held ≡ true) (still : new.held ≡ true) where
   -- in the words of the store
-  told : {r : Result A Failed} → PlacesServe (made p.layout true) (left p.layout) p q (seen old.flash) (seen new.flash) r
+  as_store : {r : Result A Failed} → PlacesServe (made p.layout true) (left p.layout) p q (seen old.flash) (seen new.flash) r
       → PlacesServe (made old.layout old.held) (left old.layout) p q (seen old.flash) (seen new.flash) r
-  told {r} serves =
+  as_store {r} serves =
       subst (λ (b : Bool). PlacesServe (made old.layout b) (left old.layout) p q (seen old.flash) (seen new.flash) r) (sym held)
       (subst (λ (l : Layout). PlacesServe (made l true) (left l) p q (seen old.flash) (seen new.flash) r) placed serves)
 
   -- the flash failed: they are down, with which files were whole
   pub failed : {e : Failed} {x : FlashFault} (down : (idles : Idles) × (flags : CompleteFlags) × (new.state ≡ Down idles flags) × ((t : SessionTable) → PlacesStand p t → flags ≡ flags_of t))
       → PlacesServe {Answer = A} (made p.layout true) (left p.layout) p q (seen old.flash) (seen new.flash) (Err e) → StoreServes {Answer = A} seen (made old.layout old.held) (left old.layout) old new (Err x)
-  failed {e} {x} down its = let serves = told its in record {
+  failed {e} {x} down its = let serves = as_store its in record {
     stands = λ t stands. tt;
     stored = λ t stored. tt;
     any_moment = λ t is. serves.any_moment t (subst (λ (s : State). StateIsHeld s t (seen old.flash)) there is);
@@ -41,7 +41,7 @@ module _ {F A : Type 0} (seen : F → FlashSeen) (made : Layout → (held : Bool
 
   -- it did not
   pub answered : {x : A} → new.state ≡ Flash q → PlacesServe (made p.layout true) (left p.layout) p q (seen old.flash) (seen new.flash) (Ok x) → StoreServes seen (made old.layout old.held) (left old.layout) old new (Ok x)
-  answered {x} here its = let serves = told its in record {
+  answered {x} here its = let serves = as_store its in record {
     stands = λ t stands. subst (λ (s : State). StateStands s (made old.layout old.held t)) (sym here) (serves.stands t (subst (λ (s : State). StateStands s t) there stands));
     stored = λ t stored. subst (λ (s : State). StateIsStored s (made old.layout old.held t) (seen new.flash)) (sym here) (serves.stored t (subst (λ (s : State). StateIsStored s t (seen old.flash)) there stored));
     any_moment = λ t is. serves.any_moment t (subst (λ (s : State). StateIsHeld s t (seen old.flash)) there is);

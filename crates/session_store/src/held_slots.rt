@@ -293,7 +293,9 @@ impl HeldSlots {
         ensures read { (table : SessionTable) → AreHeld self.now table (F.seen flash.now)
             → (b : List ℕ) → (F.seen flash.now).holds b → TableLies self.now.layout table b }
     {
+        // (a law: a field is read, so that what is kept true of all of them is known)
         let _layout = &self.layout;
+        // (which its clauses alone speak of)
         let _flash = flash;
     }
 

@@ -108,7 +108,8 @@ pub fn put_down<F: Flash>(place: Option<State>, flash: &F, layout: Layout) -> (I
             (slots.close(), flags)
         }
         Some(State::Down(idles, flags)) => (idles, flags),
-        _ => unreachable!(),
+        // (`there` rules these out: nothing in memory is down, and a place is empty only within a call)
+        Some(State::Memory(_)) | None => unreachable!(),
     }
 }
 

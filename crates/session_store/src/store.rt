@@ -58,7 +58,7 @@ impl<F: Flash + Drop> Model for SessionStore<F> {
 
 impl<F: Flash + Drop> SessionStore<F> {
     /// Where `held` is false in memory alone, and no flash is called; else down over the flash, in four ranges that lie
-    /// within it, until `power`. Memory comes where memory is wanting, and the flash is dropped then.
+    /// within it, until `power`. Memory comes where memory is missing, and the flash is dropped then.
     pub fn reserve(alloc: Global, flash: F, layout: Layout, held: bool) -> Result<Self, Memory>
         requires { held ≡ true → HasRanges layout (F.seen flash).room }
         ensures memory { held ≡ false → IfOk result (λ s. StateStands s.state no_sessions) }
@@ -146,7 +146,7 @@ impl<F: Flash + Drop> SessionStore<F> {
                     }
                 }
             }
-            _ => unreachable!(),
+            Some(State::Down(_, _)) | None => Err(FlashFault),
         }
     }
 
@@ -183,7 +183,7 @@ impl<F: Flash + Drop> SessionStore<F> {
                     }
                 }
             }
-            _ => unreachable!(),
+            Some(State::Down(_, _)) | None => Err(FlashFault),
         }
     }
 
@@ -209,7 +209,7 @@ impl<F: Flash + Drop> SessionStore<F> {
                     }
                 }
             }
-            _ => unreachable!(),
+            Some(State::Down(_, _)) | None => Err(FlashFault),
         }
     }
 
