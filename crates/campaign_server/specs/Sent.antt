@@ -1,5 +1,5 @@
 -- Commands as the server sends them.
-use Rattle.std.specs.Prelude.{◌≡◌, ℕ, Bool, true, false, Option, Some, None, Result, Ok, Err}
+use Rattle.std.specs.Prelude.{◌≡◌, ℕ, Option, Result, Ok, Err}
 use Rattle.std.specs.Option.{option_map}
 use Rattle.wire_base.specs.declared.refusal.Direction.TheVariants.{Down}
 use Rattle.wire_base.specs.Rows.{IsListed}
@@ -26,21 +26,6 @@ result_of (Err e) = Err e
 abbrev pub answer_of : {E : Type 0} → Result (Option DownlinkCommand) E → Result (Option Downlink) E
 answer_of (Ok down) = Ok (down_of down)
 answer_of (Err e) = Err e
-
--- ---- a downlink of the caller's that may be written
-
--- what it has, where it was written
-abbrev pub written : Bool → Downlink → Option Downlink
-written true down = Some down
-written false down = None
-
-abbrev pub written_where_ok : {E : Type 0} → Result (Unit {0}) E → Downlink → Result Downlink E
-written_where_ok (Ok done) down = Ok down
-written_where_ok (Err e) down = Err e
-
-abbrev pub answer_written : {E : Type 0} → Result Bool E → Downlink → Result (Option Downlink) E
-answer_written (Ok wrote) down = Ok (written wrote down)
-answer_written (Err e) down = Err e
 
 -- ---- to one device
 

@@ -1,6 +1,6 @@
 //! What the server asks of a device at each stage.
 
-ghost use Rattle.std.specs.Prelude.{◌≡◌, ◌≤◌, Some, true, false, [], length};
+ghost use Rattle.std.specs.Prelude.{◌≡◌, ◌≤◌, Some, true, length};
 ghost use Rattle.package_grammar.specs.declared.command.Command.TheVariants.{Sync, Cast};
 ghost use Rattle.sync_wire.specs.declared.cmd.Cmd.TheVariants.{DevVersionReq, DevUpgradeImageReq, DevRebootCountdownReq};
 ghost use Rattle.cast_wire.specs.declared.cmd.Cmd.TheVariants.{FragSessionStatusReq};
@@ -11,10 +11,10 @@ ghost use Rattle.mc_keys.specs.Roots.{root_of};
 ghost use Rattle.campaign_server.specs.Asking.{request_at, by_unicast, group_request, mask_of, fragments_request, window_request};
 ghost use Rattle.campaign_server.specs.Wrapping.{wrapped_key};
 ghost use Rattle.campaign_server.specs.ServerInside.{IsCut, GroupFits, WindowFits};
-ghost use Rattle.campaign_server.specs.Sent.{down_of, unicast_of, written};
+ghost use Rattle.campaign_server.specs.Sent.{down_of, unicast_of};
 
 use crate::plan::{Kind, Plan, PlanDevice, PlanGroup, PlanWindow, own_id};
-use crate::spelling::put_unicast;
+use crate::spelling::unicast;
 use crate::stage::{Request, Stage};
 use cast_wire::{Cmd, FRAGMENT_PORT, MULTICAST_PORT};
 use frag_encoder::Encoder;
@@ -23,86 +23,76 @@ use mc_keys::{Key, kek, wrap_key};
 use package_grammar::{Command, Downlink};
 use sync_wire::FIRMWARE_PORT;
 
-/// Puts the request of a stage, to a device, into a downlink without bytes, and answers whether there is one. There is
-/// none at updated and refused, and at a stage whose part the plan lacks, to which no answer leads.
+/// The request of a stage, to a device. There is none at updated and refused, and at a stage whose part the plan lacks, to
+/// which no answer leads.
 #[tactic(auto, unfolding(crate::specs::Asking::request_at))]
 pub fn request(
     plan: &Plan,
     encoder: &Encoder,
     device: &PlanDevice,
     stage: Stage,
-    down: &mut Downlink,
-) -> bool
-    requires cut { IsCut plan.now encoder.now }
-    requires empty { down.old.payload ≡ [] }
-    ensures value { written result down.new
+) -> Option<Downlink>
+    requires { IsCut plan.now encoder.now }
+    ensures { result
         ≡ down_of (by_unicast (request_at plan.now encoder.now.file device.now stage)) }
-    ensures none { result ≡ false → down.new ≡ down.old }
 {
-    match stage {
-        Stage::At(request) => match request {
-            Request::Version => version_request(down),
-            Request::Group => match plan.group {
-                Some(group) => group_request(device, &group, down),
-                None => return false,
-            },
-            Request::Fragments => fragments_request(plan, encoder, down),
-            Request::Window => match plan.window {
-                Some(window) => window_request(own_id(plan.group), &window, down),
-                None => return false,
-            },
-            Request::Status => status_request(plan, down),
-            Request::Image => image_request(down),
-            Request::Reboot => reboot_request(down),
-            Request::Check => version_request(down),
+    let Stage::At(request) = stage else {
+        return None;
+    };
+    match request {
+        Request::Version => Some(version_request()),
+        Request::Group => match plan.group {
+            Some(group) => Some(group_request(device, &group)),
+            None => None,
         },
-        Stage::Updated => return false,
-        Stage::Refused { .. } => return false,
+        Request::Fragments => Some(fragments_request(plan, encoder)),
+        Request::Window => match plan.window {
+            Some(window) => Some(window_request(own_id(plan.group), &window)),
+            None => None,
+        },
+        Request::Status => Some(status_request(plan)),
+        Request::Image => Some(image_request()),
+        Request::Reboot => Some(reboot_request()),
+        Request::Check => Some(version_request()),
     }
-    true
 }
 
-fn version_request(down: &mut Downlink)
-    requires { down.old.payload ≡ [] }
-    ensures { down.new ≡ unicast_of (Sync DevVersionReq) }
+fn version_request() -> Downlink
+    ensures { result ≡ unicast_of (Sync DevVersionReq) }
 {
     let command = Command::Sync(sync_wire::Cmd::DevVersionReq);
-    put_unicast(FIRMWARE_PORT, &command, down);
+    unicast(FIRMWARE_PORT, &command)
 }
 
-fn image_request(down: &mut Downlink)
-    requires { down.old.payload ≡ [] }
-    ensures { down.new ≡ unicast_of (Sync DevUpgradeImageReq) }
+fn image_request() -> Downlink
+    ensures { result ≡ unicast_of (Sync DevUpgradeImageReq) }
 {
     let command = Command::Sync(sync_wire::Cmd::DevUpgradeImageReq);
-    put_unicast(FIRMWARE_PORT, &command, down);
+    unicast(FIRMWARE_PORT, &command)
 }
 
-fn reboot_request(down: &mut Downlink)
-    requires { down.old.payload ≡ [] }
-    ensures { down.new ≡ unicast_of (Sync (DevRebootCountdownReq 0)) }
+fn reboot_request() -> Downlink
+    ensures { result ≡ unicast_of (Sync (DevRebootCountdownReq 0)) }
 {
     let command = Command::Sync(sync_wire::Cmd::DevRebootCountdownReq { count: 0 });
-    put_unicast(FIRMWARE_PORT, &command, down);
+    unicast(FIRMWARE_PORT, &command)
 }
 
-fn status_request(plan: &Plan, down: &mut Downlink)
+fn status_request(plan: &Plan) -> Downlink
     requires index { plan.now.index ≤ max_index }
-    requires empty { down.old.payload ≡ [] }
-    ensures { down.new ≡ unicast_of (Cast (FragSessionStatusReq plan.now.index true)) }
+    ensures { result ≡ unicast_of (Cast (FragSessionStatusReq plan.now.index true)) }
 {
     let command = Command::Cast(Cmd::FragSessionStatusReq {
         index: plan.index,
         all: true,
     });
-    put_unicast(FRAGMENT_PORT, &command, down);
+    unicast(FRAGMENT_PORT, &command)
 }
 
 /// McGroupSetupReq, the group's key wrapped for the device.
-fn group_request(device: &PlanDevice, group: &PlanGroup, down: &mut Downlink)
+fn group_request(device: &PlanDevice, group: &PlanGroup) -> Downlink
     requires id { group.now.id ≤ max_index }
-    requires empty { down.old.payload ≡ [] }
-    ensures { down.new ≡ unicast_of (Cast (group_request device.now group.now)) }
+    ensures { result ≡ unicast_of (Cast (group_request device.now group.now)) }
 {
     // each read here, so that the command is known to have numbers of four bytes
     let _addr = group.addr; // four bytes
@@ -115,7 +105,7 @@ fn group_request(device: &PlanDevice, group: &PlanGroup, down: &mut Downlink)
         min: group.min,
         max: group.max,
     });
-    put_unicast(MULTICAST_PORT, &command, down);
+    unicast(MULTICAST_PORT, &command)
 }
 
 /// McKey_encrypted for a device.
@@ -144,10 +134,9 @@ fn first_byte(block: &Key) -> u8 {
 
 /// FragSessionSetupReq for the image.
 #[tactic(auto, using(image_slots::proofs::ImageLemmas::image_bounds))]
-fn fragments_request(plan: &Plan, encoder: &Encoder, down: &mut Downlink)
+fn fragments_request(plan: &Plan, encoder: &Encoder) -> Downlink
     requires cut { IsCut plan.now encoder.now }
-    requires empty { down.old.payload ≡ [] }
-    ensures { down.new ≡ unicast_of (Cast (fragments_request plan.now encoder.now.file)) }
+    ensures { result ≡ unicast_of (Cast (fragments_request plan.now encoder.now.file)) }
 {
     let command = Command::Cast(Cmd::FragSessionSetupReq {
         index: plan.index,
@@ -159,7 +148,7 @@ fn fragments_request(plan: &Plan, encoder: &Encoder, down: &mut Downlink)
         padding: encoder.padding(),
         descriptor: firmware(encoder.file()),
     });
-    put_unicast(FRAGMENT_PORT, &command, down);
+    unicast(FRAGMENT_PORT, &command)
 }
 
 /// The group may feed the session where there is one.
@@ -175,11 +164,10 @@ fn mask(group: Option<PlanGroup>) -> u8
 }
 
 /// McClassCSessionReq or McClassBSessionReq for the group with an id.
-fn window_request(id: u8, window: &PlanWindow, down: &mut Downlink)
+fn window_request(id: u8, window: &PlanWindow) -> Downlink
     requires id { id ≤ max_index }
     requires window { WindowFits (Some window.now) }
-    requires empty { down.old.payload ≡ [] }
-    ensures { down.new ≡ unicast_of (Cast (window_request id window.now)) }
+    ensures { result ≡ unicast_of (Cast (window_request id window.now)) }
 {
     // each read here, so that the command is known to have numbers of its widths
     let _start = window.start; // four bytes
@@ -201,5 +189,5 @@ fn window_request(id: u8, window: &PlanWindow, down: &mut Downlink)
             dr: window.dr,
         },
     };
-    put_unicast(MULTICAST_PORT, &Command::Cast(cmd), down);
+    unicast(MULTICAST_PORT, &Command::Cast(cmd))
 }

@@ -1,6 +1,6 @@
 //! What the server sends to all devices: fragments, and status requests.
 
-ghost use Rattle.std.specs.Prelude.{◌≡◌, ◌≤◌, ◌+◌, length, true, false, []};
+ghost use Rattle.std.specs.Prelude.{◌≡◌, ◌≤◌, ◌+◌, length, true, false};
 ghost use Rattle.frag_encoder.specs.Encoding.{nb_frag_of, data_of};
 ghost use Rattle.package_grammar.specs.declared.command.Command.TheVariants.{Cast};
 ghost use Rattle.cast_wire.specs.declared.cmd.Cmd.TheVariants.{DataFragment, FragSessionStatusReq};
@@ -10,7 +10,7 @@ ghost use Rattle.campaign_server.specs.Fragments.{receivers, has_no_count, next_
 ghost use Rattle.campaign_server.specs.ServerInside.{IsCut, IsCount};
 
 use crate::plan::{Plan, PlanGroup};
-use crate::spelling::put;
+use crate::spelling::downlink;
 use arrayvec::ArrayVec;
 use cast_wire::{Cmd, FRAGMENT_PORT, FragmentBytes};
 use frag_encoder::{Beyond, Encoder, MAX_FRAGMENT};
@@ -64,13 +64,12 @@ pub fn next_count(group: Option<PlanGroup>, count: u32) -> u32
     }
 }
 
-/// Puts fragment n of the image into a downlink without bytes.
-pub fn put_fragment(plan: &Plan, encoder: &Encoder, to: To, n: u16, down: &mut Downlink)
+/// Fragment n of the image.
+pub fn fragment(plan: &Plan, encoder: &Encoder, to: To, n: u16) -> Downlink
     requires cut { IsCut plan.now encoder.now }
     requires first { 1 ≤ n }
     requires last { n ≤ nb_frag_of (length encoder.now.file) plan.now.frag_size + plan.now.parity }
-    requires empty { down.old.payload ≡ [] }
-    ensures { down.new ≡ downlink_of (record {
+    ensures { result ≡ downlink_of (record {
       to = to;
       command = Cast (DataFragment plan.now.index n
           (data_of encoder.now.file plan.now.frag_size n));
@@ -83,7 +82,7 @@ pub fn put_fragment(plan: &Plan, encoder: &Encoder, to: To, n: u16, down: &mut D
         n,
         bytes: FragmentBytes::from_slice(part.as_slice()),
     });
-    put(to, FRAGMENT_PORT, &command, down);
+    downlink(to, FRAGMENT_PORT, &command)
 }
 
 /// Replaces what `part` holds by the bytes of fragment n.
@@ -100,16 +99,15 @@ fn encode(plan: &Plan, encoder: &Encoder, n: u16, part: &mut ArrayVec<u8, MAX_FR
     }
 }
 
-/// Puts FragSessionStatusReq to all, answered by devices that miss a fragment, into a downlink without bytes.
-pub fn put_status_of_all(plan: &Plan, to: To, down: &mut Downlink)
-    requires index { plan.now.index ≤ max_index }
-    requires empty { down.old.payload ≡ [] }
+/// FragSessionStatusReq to all, answered by devices that miss a fragment.
+pub fn status_of_all(plan: &Plan, to: To) -> Downlink
+    requires { plan.now.index ≤ max_index }
     ensures { let command = Cast (FragSessionStatusReq plan.now.index false) in
-        down.new ≡ downlink_of (record { to = to; command = command }) }
+        result ≡ downlink_of (record { to = to; command = command }) }
 {
     let command = Command::Cast(Cmd::FragSessionStatusReq {
         index: plan.index,
         all: false,
     });
-    put(to, FRAGMENT_PORT, &command, down);
+    downlink(to, FRAGMENT_PORT, &command)
 }

@@ -1,6 +1,6 @@
 //! The server of a campaign: its record, and its calls.
 
-ghost use Rattle.std.specs.Prelude.{◌≡◌, ◌↔◌, ◌≤◌, [], Ok, Err, IfOk, OnErr, is_ok, is_some, None, Some, length, replicate, true, false};
+ghost use Rattle.std.specs.Prelude.{◌≡◌, ◌↔◌, ◌≤◌, Err, IfOk, is_ok, is_some, None, Some, length, replicate, true};
 ghost use Rattle.image_slots.specs.Image.{is_image};
 ghost use Rattle.frag_encoder.specs.Encoding.{nb_frag_of, padding_of};
 ghost use Rattle.campaign_server.specs.declared.plan.Field.{Field};
@@ -13,15 +13,13 @@ ghost use Rattle.campaign_server.specs.Asking.{request_of};
 ghost use Rattle.campaign_server.specs.Fragments.{last_fragment, next_fragment, after_fragment, status_to_all, after_status_to_all};
 ghost use Rattle.campaign_server.specs.Uplinks.{uplink_step};
 ghost use Rattle.campaign_server.specs.ServerInside.{IsPlan};
-ghost use Rattle.campaign_server.specs.Sent.{down_of, result_of, answer_of, written, written_where_ok, answer_written};
+ghost use Rattle.campaign_server.specs.Sent.{down_of, result_of, answer_of};
 ghost use Rattle.campaign_server.specs.Framing.{has_frame, frame_for};
 
 use crate::answers::stage_after_all;
 use crate::asking::request;
 use crate::checks::bad_field;
-use crate::fragments::{
-    Spent, has_no_count, next_count, put_fragment, put_status_of_all, receivers,
-};
+use crate::fragments::{Spent, fragment, has_no_count, next_count, receivers, status_of_all};
 use crate::framing::{is_to_group, keys_of};
 use crate::plan::{Field, Plan, PlanDevice, PlanGroup};
 use crate::stage::{Request, Stage};
@@ -123,26 +121,9 @@ impl Server {
         requires last { dev ≤ length self.now.plan.devices }
         ensures { result ≡ down_of (request_of self.now dev) }
     {
-        let mut down = Downlink::blank();
-        if self.ask_into(dev, &mut down) {
-            Some(down)
-        } else {
-            None
-        }
-    }
-
-    /// As `ask`, written into a downlink of the caller's that has no bytes; false exactly where nothing is asked, and
-    /// it is then as it was.
-    pub fn ask_into(&self, dev: u8, down: &mut Downlink) -> bool
-        requires first { 1 ≤ dev }
-        requires last { dev ≤ length self.now.plan.devices }
-        requires empty { down.old.payload ≡ [] }
-        ensures value { written result down.new ≡ down_of (request_of self.now dev) }
-        ensures none { result ≡ false → down.new ≡ down.old }
-    {
         let device = device_of(&self.plan, dev);
         let stage = numbered(&self.stages, dev);
-        request(&self.plan, &self.encoder, &device, stage, down)
+        request(&self.plan, &self.encoder, &device, stage)
     }
 
     /// Whether a next fragment can be sent.
@@ -157,23 +138,9 @@ impl Server {
     /// The next fragment to all devices: by the group with its next frame count, else as unicast.
     /// `Fragments` comes exactly where all were sent, and else `Counts` exactly where the next count is the group's MAX;
     /// nothing changes then.
+    #[tactic(auto, unfolding(crate::specs::Fragments::next_fragment, crate::specs::Fragments::after_fragment))]
     pub fn next_fragment(&mut self) -> Result<Downlink, Spent>
         ensures sent { result ≡ result_of (next_fragment self.old) }
-        ensures moved { self.new ≡ after_fragment self.old }
-    {
-        let mut down = Downlink::blank();
-        match self.next_fragment_into(&mut down) {
-            Ok(()) => Ok(down),
-            Err(nothing) => Err(nothing),
-        }
-    }
-
-    /// As `next_fragment`, written into a downlink of the caller's that has no bytes; at an error it is as it was.
-    #[tactic(auto, unfolding(crate::specs::Fragments::next_fragment, crate::specs::Fragments::after_fragment))]
-    pub fn next_fragment_into(&mut self, down: &mut Downlink) -> Result<(), Spent>
-        requires { down.old.payload ≡ [] }
-        ensures sent { written_where_ok result down.new ≡ result_of (next_fragment self.old) }
-        ensures none { OnErr result (down.new ≡ down.old) }
         ensures moved { self.new ≡ after_fragment self.old }
     {
         if self.next > self.encoder.nb_frag() + self.plan.parity {
@@ -184,10 +151,10 @@ impl Server {
             return Err(Spent::Counts);
         }
         let to = receivers(group, self.count);
-        put_fragment(&self.plan, &self.encoder, to, self.next, down);
+        let down = fragment(&self.plan, &self.encoder, to, self.next);
         self.count = next_count(group, self.count);
         self.next += 1;
-        Ok(())
+        Ok(down)
     }
 
     /// Whether all devices can be asked for their status.
@@ -200,34 +167,18 @@ impl Server {
 
     /// FragSessionStatusReq to all devices, answered by those that miss a fragment: by the group with its next frame count,
     /// else as unicast. None exactly where that count is the group's MAX.
+    #[tactic(auto, unfolding(crate::specs::Fragments::status_to_all, crate::specs::Fragments::after_status_to_all))]
     pub fn status_all(&mut self) -> Option<Downlink>
         ensures sent { result ≡ down_of (status_to_all self.old) }
         ensures moved { self.new ≡ after_status_to_all self.old }
     {
-        let mut down = Downlink::blank();
-        if self.status_all_into(&mut down) {
-            Some(down)
-        } else {
-            None
-        }
-    }
-
-    /// As `status_all`, written into a downlink of the caller's that has no bytes; true exactly where one is sent, and
-    /// else it is as it was.
-    #[tactic(auto, unfolding(crate::specs::Fragments::status_to_all, crate::specs::Fragments::after_status_to_all))]
-    pub fn status_all_into(&mut self, down: &mut Downlink) -> bool
-        requires { down.old.payload ≡ [] }
-        ensures sent { written result down.new ≡ down_of (status_to_all self.old) }
-        ensures none { result ≡ false → down.new ≡ down.old }
-        ensures moved { self.new ≡ after_status_to_all self.old }
-    {
         let group = self.plan.group;
         if has_no_count(group, self.count) {
-            return false;
+            return None;
         }
-        put_status_of_all(&self.plan, receivers(group, self.count), down);
+        let down = status_of_all(&self.plan, receivers(group, self.count));
         self.count = next_count(group, self.count);
-        true
+        Some(down)
     }
 
     /// Whether a payload has a frame: it is to the plan's group, and its port isn't 0.
@@ -266,38 +217,11 @@ impl Server {
         ensures moved { self.new ≡ (uplink_step self.old dev port payload.now t).server }
         ensures answer { result ≡ answer_of (uplink_step self.old dev port payload.now t).answer }
     {
-        let mut down = Downlink::blank();
-        match self.uplink_into(dev, port, payload, t, &mut down) {
-            Ok(true) => Ok(Some(down)),
-            Ok(false) => Ok(None),
-            Err(refusal) => Err(refusal),
-        }
-    }
-
-    /// As `uplink`, the answer written into a downlink of the caller's that has no bytes; true exactly where there is
-    /// an answer, and else it is as it was.
-    pub fn uplink_into(
-        &mut self,
-        dev: u8,
-        port: u8,
-        payload: &[u8],
-        t: u64,
-        down: &mut Downlink,
-    ) -> Result<bool, Refusal>
-        requires first { 1 ≤ dev }
-        requires last { dev ≤ length self.old.plan.devices }
-        requires empty { down.old.payload ≡ [] }
-        ensures moved { self.new ≡ (uplink_step self.old dev port payload.now t).server }
-        ensures answer { answer_written result down.new
-            ≡ answer_of (uplink_step self.old dev port payload.now t).answer }
-        ensures none { result ≡ Ok false → down.new ≡ down.old }
-        ensures refused { OnErr result (down.new ≡ down.old) }
-    {
         let message = match Message::read(port, Direction::Up, payload) {
             Ok(message) => message,
             Err(refusal) => return Err(refusal),
         };
-        let answer = time_answer(t, message.again(), down);
+        let answer = time_answer(t, message.again());
         let stage = numbered(&self.stages, dev);
         let moved = stage_after_all(&self.plan, self.encoder.file(), stage, message);
         self.stages[dev as usize - 1] = moved;

@@ -137,11 +137,6 @@ abbrev pub answered : {A E : Type 0} → Result (Option A) E → Option A
 answered (Ok answer) = answer
 answered (Err refusal) = None
 
--- whether there was one
-abbrev pub is_answered : {E : Type 0} → Result Bool E → Bool
-is_answered (Ok answered) = answered
-is_answered (Err refusal) = false
-
 -- of what was tested of a form before it is carried out, what its call asks for
 pub record IsTested (held : HeldCampaign) (form : Form) : Type 0 where
   pub ranges : in_range form ≡ true

@@ -24,7 +24,7 @@ use crate::summary::summary;
 use crate::uplink_ref::UplinkRef;
 use campaign_server::Server;
 use device_core::Moment;
-use package_grammar::{Downlink, DownlinkRef, To};
+use package_grammar::{DownlinkRef, To};
 use script_lines::{Form, HexBytes, MAX_HEX_BYTES};
 use std::alloc::{AllocError, Global};
 use std::marker::Model;
@@ -41,8 +41,6 @@ pub struct Campaign {
     pub(super) flash: Vec<u64>,
     pub(super) sent: SentLog,
     pub(super) uplinks: UplinkLog,
-    /// Where the server writes a payload, before it is numbered.
-    pub(super) line: Downlink,
 }
 
 impl Model for Campaign {
@@ -88,7 +86,6 @@ impl Campaign {
             flash,
             sent: SentLog::new(alloc),
             uplinks: UplinkLog::new(alloc),
-            line: Downlink::blank(),
         }
     }
 

@@ -6,9 +6,9 @@ ghost use Rattle.wire_base.specs.Numbered.{numbered};
 ghost use Rattle.campaign_server.specs.Asking.{request_of};
 ghost use Rattle.campaign_server.specs.Fragments.{next_fragment, after_fragment, status_to_all, after_status_to_all};
 ghost use Rattle.campaign_server.specs.Uplinks.{uplink_step};
-ghost use Rattle.campaign_server.specs.Sent.{down_of, written};
+ghost use Rattle.campaign_server.specs.Sent.{down_of};
 ghost use Rattle.campaign_world.specs.Making.{with_sent, sent_frame, after_up, at_events};
-ghost use Rattle.campaign_world.specs.HeldWorld.{sent_by, answered, is_answered};
+ghost use Rattle.campaign_world.specs.HeldWorld.{sent_by, answered};
 ghost use Rattle.campaign_world.specs.HeldLog.{HasRoom};
 ghost use Rattle.campaign_world.specs.declared.numbered.NumberedUplink.{NumberedUplink};
 
@@ -19,7 +19,7 @@ use campaign_server::Server;
 use mc_frames::Frame;
 use package_grammar::Downlink;
 use std::alloc::AllocError;
-use wire_base::{Payload, Refusal};
+use wire_base::Refusal;
 
 impl Campaign {
     ghost use Rattle.campaign_world.specs.HeldWorld.{Plays, SameEnds};
@@ -37,7 +37,7 @@ impl Campaign {
             Ok(()) => {}
             Err(error) => return Err(error),
         }
-        send_request(&mut self.sent, &mut self.line, &self.server, device);
+        send_request(&mut self.sent, &self.server, device);
         Ok(())
     }
 
@@ -53,7 +53,7 @@ impl Campaign {
             Ok(()) => {}
             Err(error) => return Err(error),
         }
-        send_fragment(&mut self.sent, &mut self.line, &mut self.server);
+        send_fragment(&mut self.sent, &mut self.server);
         Ok(())
     }
 
@@ -69,7 +69,7 @@ impl Campaign {
             Ok(()) => {}
             Err(error) => return Err(error),
         }
-        send_status(&mut self.sent, &mut self.line, &mut self.server);
+        send_status(&mut self.sent, &mut self.server);
         Ok(())
     }
 
@@ -88,13 +88,7 @@ impl Campaign {
         let Some(made) = self.uplinks.number(number) else {
             unreachable!()
         };
-        send_answer(
-            &mut self.sent,
-            &mut self.line,
-            &mut self.server,
-            &made,
-            self.time,
-        );
+        send_answer(&mut self.sent, &mut self.server, &made, self.time);
         Ok(())
     }
 }
@@ -123,50 +117,38 @@ fn frame_of(server: &Server, down: &Downlink) -> Option<Frame>
 }
 
 /// Numbers the request of the stage of a device, where there is one. There is room for it.
-fn send_request(sent: &mut SentLog, line: &mut Downlink, server: &Server, device: u8)
+fn send_request(sent: &mut SentLog, server: &Server, device: u8)
     requires first { 1 ≤ device }
     requires last { device ≤ length server.now.plan.devices }
     requires room { HasRoom 1 sent.old }
     ensures { sent.new.items
         ≡ sent.old.items ++ sent_by (Some device) (down_of (request_of server.now device)) }
 {
-    line.payload = Payload::new();
-    let asked = server.ask_into(device, line);
-    keep(sent, Some(device), line, asked);
+    keep(sent, Some(device), &server.ask(device));
 }
 
 /// Numbers the next fragment, where there is one. There is room for it.
-fn send_fragment(sent: &mut SentLog, line: &mut Downlink, server: &mut Server)
+fn send_fragment(sent: &mut SentLog, server: &mut Server)
     requires { HasRoom 1 sent.old }
     ensures sent { sent.new.items
         ≡ sent.old.items ++ sent_by None (down_of (result_ok (next_fragment server.old))) }
     ensures moved { server.new ≡ after_fragment server.old }
 {
-    line.payload = Payload::new();
-    let made = server.next_fragment_into(line);
-    keep(sent, None, line, made.is_ok());
+    keep(sent, None, &server.next_fragment().ok());
 }
 
 /// Numbers the status request to all devices, where there is one. There is room for it.
-fn send_status(sent: &mut SentLog, line: &mut Downlink, server: &mut Server)
+fn send_status(sent: &mut SentLog, server: &mut Server)
     requires { HasRoom 1 sent.old }
     ensures sent { sent.new.items
         ≡ sent.old.items ++ sent_by None (down_of (status_to_all server.old)) }
     ensures moved { server.new ≡ after_status_to_all server.old }
 {
-    line.payload = Payload::new();
-    let asked = server.status_all_into(line);
-    keep(sent, None, line, asked);
+    keep(sent, None, &server.status_all());
 }
 
 /// Numbers what the server answers to an uplink, nothing to one that it refuses. There is room for it.
-fn send_answer(
-    sent: &mut SentLog,
-    line: &mut Downlink,
-    server: &mut Server,
-    made: &NumberedUplink<'_>,
-    t: u64,
-)
+fn send_answer(sent: &mut SentLog, server: &mut Server, made: &NumberedUplink<'_>, t: u64)
     requires first { 1 ≤ made.now.device }
     requires last { made.now.device ≤ length server.old.plan.devices }
     requires room { HasRoom 1 sent.old }
@@ -176,29 +158,28 @@ fn send_answer(
     ensures moved { server.new ≡ (uplink_step server.old made.now.device made.now.uplink.port
         made.now.uplink.payload t).server }
 {
-    line.payload = Payload::new();
     let device = made.device;
     let uplink = &made.uplink;
-    let heard = server.uplink_into(device, uplink.port(), uplink.bytes(), t, line);
-    keep(sent, Some(device), line, is_answered(heard));
+    let heard = server.uplink(device, uplink.port(), uplink.bytes(), t);
+    keep(sent, Some(device), &answered(heard));
 }
 
-/// Whether an uplink was taken and is answered.
-fn is_answered(heard: Result<bool, Refusal>) -> bool
-    ensures { result ≡ is_answered heard }
+/// The answer to an uplink, where it was taken and is answered.
+fn answered(heard: Result<Option<Downlink>, Refusal>) -> Option<Downlink>
+    ensures { result ≡ answered heard }
 {
     match heard {
-        Ok(answered) => answered,
-        Err(_) => false,
+        Ok(answer) => answer,
+        Err(_) => None,
     }
 }
 
-/// Numbers a payload that was written, and else nothing. There is room for it.
-fn keep(sent: &mut SentLog, receiver: Option<u8>, down: &Downlink, wrote: bool)
+/// Numbers a payload, where there is one. There is room for it.
+fn keep(sent: &mut SentLog, receiver: Option<u8>, down: &Option<Downlink>)
     requires { HasRoom 1 sent.old }
-    ensures { sent.new.items ≡ sent.old.items ++ sent_by receiver (written wrote down.now) }
+    ensures { sent.new.items ≡ sent.old.items ++ sent_by receiver down.now }
 {
-    if wrote {
+    if let Some(down) = down {
         sent.push(receiver, down);
     }
 }

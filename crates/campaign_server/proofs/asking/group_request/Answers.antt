@@ -1,8 +1,8 @@
 use Rattle.std.proofs.Common.{refl, rules, arith}
 use Rattle.campaign_server.proofs.asking.group_request.Goals as goal
 
-pub put_unicast-requires-clause-sent : goal.put_unicast-requires-clause-sent
-put_unicast-requires-clause-sent c = record {
+pub unicast-requires : goal.unicast-requires
+unicast-requires c = record {
   valid = record {
     fields = ((omega arith, tt), (omega arith, (tt, (omega arith, (omega arith, tt)))));
     whole = c.wrapped.ensures.sized;

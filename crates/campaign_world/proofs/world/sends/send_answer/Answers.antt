@@ -1,7 +1,7 @@
 use Rattle.std.proofs.Common.{Option, Some, ap, ◌∙◌, ◌++◌}
 use Rattle.package_grammar.specs.declared.downlink.Downlink.{Downlink}
 use Rattle.campaign_world.specs.HeldWorld.{sent_by}
-use Rattle.campaign_world.proofs.Ends.{answer_is_written}
+use Rattle.campaign_world.proofs.Ends.{answer_sent}
 use Rattle.campaign_world.proofs.world.sends.send_answer.Goals as goal
 
 pub returns-clause-sent : goal.returns-clause-sent
@@ -9,4 +9,4 @@ returns-clause-sent c =
     rw (← c.port.ensures, ← c.bytes.ensures.value)
     (c.keep.ensures
     ∙ ap (λ (d : Option Downlink). c.args.sent.now.items ++ sent_by (Some c.args.made.now.device) d)
-    (answer_is_written _ c.uplink_into-heard.result _ _ c.is_answered.ensures c.uplink_into-heard.ensures.answer))
+    (c.answered.ensures ∙ answer_sent c.uplink-heard.result _ c.uplink-heard.ensures.answer))

@@ -1,10 +1,10 @@
 use Rattle.std.proofs.Common.{Option, None, ap, ◌∙◌, ◌++◌}
 use Rattle.package_grammar.specs.declared.downlink.Downlink.{Downlink}
 use Rattle.campaign_world.specs.HeldWorld.{sent_by}
-use Rattle.campaign_world.proofs.Ends.{fragment_written}
+use Rattle.campaign_world.proofs.Ends.{fragment_sent}
 use Rattle.campaign_world.proofs.world.sends.send_fragment.Goals as goal
 
 pub returns-clause-sent : goal.returns-clause-sent
 returns-clause-sent c = c.keep.ensures
     ∙ ap (λ (d : Option Downlink). c.args.sent.now.items ++ sent_by None d)
-    (fragment_written _ c.next_fragment_into-made.result _ _ c.is_ok.ensures.value c.next_fragment_into-made.ensures.sent)
+    (c.ok.ensures ∙ fragment_sent c.next_fragment.result _ c.next_fragment.ensures.sent)

@@ -5,4 +5,4 @@ use Rattle.campaign_world.proofs.world.sends.send_request.Goals as goal
 
 pub returns : goal.returns
 returns c = c.keep.ensures
-    ∙ ap (λ (d : Option Downlink). c.args.sent.now.items ++ sent_by (Some c.args.device) d) c.ask_into-asked.ensures.value
+    ∙ ap (λ (d : Option Downlink). c.args.sent.now.items ++ sent_by (Some c.args.device) d) c.ask.ensures

@@ -5,4 +5,4 @@ use Rattle.campaign_world.proofs.world.sends.send_status.Goals as goal
 
 pub returns-clause-sent : goal.returns-clause-sent
 returns-clause-sent c = c.keep.ensures
-    ∙ ap (λ (d : Option Downlink). c.args.sent.now.items ++ sent_by None d) c.status_all_into-asked.ensures.sent
+    ∙ ap (λ (d : Option Downlink). c.args.sent.now.items ++ sent_by None d) c.status_all.ensures.sent

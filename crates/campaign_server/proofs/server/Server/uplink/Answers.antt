@@ -6,7 +6,7 @@ use Rattle.package_grammar.proofs.ReadResults.{refusal_read, commands_read}
 use Rattle.campaign_server.specs.Server.{ledger}
 use Rattle.campaign_server.specs.Uplinks.{read_uplink, uplink_step}
 use Rattle.campaign_server.proofs.Plans.{moved_by, answered_by}
-use Rattle.campaign_server.proofs.server.Server.uplink_into.Goals as goal
+use Rattle.campaign_server.proofs.server.Server.uplink.Goals as goal
 
 pub returns-in-Err-clause-moved : goal.returns-in-Err-clause-moved
 unfolding uplink_step read_uplink
@@ -34,4 +34,4 @@ returns-clause-moved c =
 pub returns-clause-answer : goal.returns-clause-answer
 unfolding uplink_step
 returns-clause-answer c =
-    rw (commands_read c.args.port Up (reading_of c.args.port Up c.args.payload.now) c.in-Ok.message c.in-Ok.ensures.reading, answered_by c.args.self.now c.args.dev c.args.t c.in-Ok.message.commands, c.time_answer-answer.ensures.value, c.again.ensures) refl
+    rw (commands_read c.args.port Up (reading_of c.args.port Up c.args.payload.now) c.in-Ok.message c.in-Ok.ensures.reading, answered_by c.args.self.now c.args.dev c.args.t c.in-Ok.message.commands, c.time_answer-answer.ensures, c.again.ensures) refl
