@@ -55,11 +55,11 @@ unfolding after_answers fragment_step heard_step
 heard_steps here old sessions slots hw index n part was_whole its_news hw_is was fed stand offers = record {
   stands = λ device stands.
       let table = device.sessions in
-      let behind = table_after_fragment index here.via n part here.moment.mark table in
-      let file = whole_file (view_of (session_at behind index)) in
+      let after = table_after_fragment index here.via n part here.moment.mark table in
+      let file = whole_file (view_of (session_at after index)) in
       let heard = stand table stands.sessions in
       let slots_are : slots ≡ slots_after old.config.hw (is_whole (view_of (session_at table index))) file old.slots =
-      offers behind heard
+      offers after heard
       ∙ ap (λ b. slots_after hw b file old.slots) (was table stands.sessions)
       ∙ ap (λ h. slots_after h (is_whole (view_of (session_at table index))) file old.slots) hw_is in
       rw (stands.rest, no_cause _ its_news _ (fed table stands.sessions)) (record {

@@ -10,7 +10,7 @@ use Rattle.device_core.specs.SessionTable.{session_at}
 use Rattle.device_core.specs.Device.{DeviceState}
 use Rattle.device_core.specs.Fragments.{is_complete, whole_file, slots_after, heard_step, fragment_step}
 use Rattle.device_core.specs.Step.{command_step}
-use Rattle.device_core.specs.WholeFiles.{behind_fragment, IsSeen, WholeFiles}
+use Rattle.device_core.specs.WholeFiles.{after_data_fragment, IsSeen, WholeFiles}
 
 not_complete : (v : Verdict) → ((mark : ℕ) → v ≢ Complete mark) → is_complete v ≡ false
 not_complete Receiving never = refl
@@ -28,26 +28,26 @@ kept hw seen slots true is = refl
 kept hw seen slots false is = rw is refl
 
 -- the slots after a fragment, whether it is heard or dropped
-slots_behind : (here : Arrival) (device : DeviceState) (index n : ℕ) (part : List ℕ) (before behind : Seen) → IsSeen here device index n part before behind
-    → (behind_fragment here device index n part).slots ≡ slots_after device.config.hw (is_complete before.verdict) (whole_file (Some behind)) device.slots
+slots_after_fragment : (here : Arrival) (device : DeviceState) (index n : ℕ) (part : List ℕ) (before after : Seen) → IsSeen here device index n part before after
+    → (after_data_fragment here device index n part).slots ≡ slots_after device.config.hw (is_complete before.verdict) (whole_file (Some after)) device.slots
 unfolding command_step fragment_step heard_step
-slots_behind here device index n part before behind is = by_cause (is_none (drop_cause (session_at device.sessions index) here.via n part)) refl
+slots_after_fragment here device index n part before after is = by_cause (is_none (drop_cause (session_at device.sessions index) here.via n part)) refl
   where
     by_cause : (b : Bool) → is_none (drop_cause (session_at device.sessions index) here.via n part) ≡ b
-        → (behind_fragment here device index n part).slots ≡ slots_after device.config.hw (is_complete before.verdict) (whole_file (Some behind)) device.slots
+        → (after_data_fragment here device index n part).slots ≡ slots_after device.config.hw (is_complete before.verdict) (whole_file (Some after)) device.slots
     by_cause true heard =
-        let last : view_of (session_at (heard_step here device index n part).sessions index) ≡ Some behind = rw heard at is.last in
+        let last : view_of (session_at (heard_step here device index n part).sessions index) ≡ Some after = rw heard at is.last in
         rw (heard, is.first, last) refl
     by_cause false dropped =
-        let last : view_of (session_at device.sessions index) ≡ Some behind = rw dropped at is.last in
-        let both : Some before ≡ Some behind = sym is.first ∙ last in
-        let same : before ≡ behind = cc in
+        let last : view_of (session_at device.sessions index) ≡ Some after = rw dropped at is.last in
+        let both : Some before ≡ Some after = sym is.first ∙ last in
+        let same : before ≡ after = cc in
         rw (dropped, ← same) (kept device.config.hw before device.slots (is_complete before.verdict) refl)
 
 pub whole_files : WholeFiles
 whole_files = record {
-  brought = λ here device index n mark part before behind is first last. slots_behind here device index n part before behind is ∙ rw (first, last) refl;
-  once = λ here device index n mark part before behind is first. slots_behind here device index n part before behind is ∙ rw first refl;
-  no_file = λ here device index n part before behind is never.
-      slots_behind here device index n part before behind is ∙ rw (not_complete behind.verdict never) (same_slots device.config.hw (is_complete before.verdict) device.slots);
+  brought = λ here device index n mark part before after is first last. slots_after_fragment here device index n part before after is ∙ rw (first, last) refl;
+  once = λ here device index n mark part before after is first. slots_after_fragment here device index n part before after is ∙ rw first refl;
+  no_file = λ here device index n part before after is never.
+      slots_after_fragment here device index n part before after is ∙ rw (not_complete after.verdict never) (same_slots device.config.hw (is_complete before.verdict) device.slots);
 }

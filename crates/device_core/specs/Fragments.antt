@@ -88,10 +88,10 @@ unfoldable pub heard_step : Arrival → DeviceState → (index n : ℕ) → List
 heard_step here device index n part =
     let sessions = table_after_fragment index here.via n part here.moment.mark device.sessions in
     let before = view_of (session_at device.sessions index) in
-    let behind = view_of (session_at sessions index) in
+    let after = view_of (session_at sessions index) in
     record device {
       sessions = sessions;
-      slots = slots_after device.config.hw (is_whole before) (whole_file behind) device.slots;
+      slots = slots_after device.config.hw (is_whole before) (whole_file after) device.slots;
     }
 
 -- and one that is dropped is counted

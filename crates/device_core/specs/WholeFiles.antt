@@ -11,28 +11,28 @@ use Rattle.device_core.specs.Device.{DeviceState}
 use Rattle.device_core.specs.Step.{command_step}
 
 -- the device after a fragment
-abbrev pub behind_fragment : Arrival → DeviceState → (index n : ℕ) → List ℕ → DeviceState
-behind_fragment here device index n part = (command_step here device (Cast (DataFragment index n part))).device
+abbrev pub after_data_fragment : Arrival → DeviceState → (index n : ℕ) → List ℕ → DeviceState
+after_data_fragment here device index n part = (command_step here device (Cast (DataFragment index n part))).device
 
 -- what is seen of the session at an index
 abbrev pub seen_at : DeviceState → (index : ℕ) → Option Seen
 seen_at device index = view_of (session_at device.sessions index)
 
 -- this was seen of a session before a fragment came, and that after it
-pub record IsSeen (here : Arrival) (device : DeviceState) (index n : ℕ) (part : List ℕ) (before behind : Seen) : Type 0 where
+pub record IsSeen (here : Arrival) (device : DeviceState) (index n : ℕ) (part : List ℕ) (before after : Seen) : Type 0 where
   pub first : seen_at device index ≡ Some before
-  pub last : seen_at (behind_fragment here device index n part) index ≡ Some behind
+  pub last : seen_at (after_data_fragment here device index n part) index ≡ Some after
 
 pub record WholeFiles : Type 0 where
   -- the fragment that makes the file whole brings it to the next slot
-  pub brought : (here : Arrival) (device : DeviceState) (index n mark : ℕ) (part : List ℕ) (before behind : Seen)
-      → IsSeen here device index n part before behind → before.verdict ≡ Receiving → behind.verdict ≡ Complete mark
-      → (behind_fragment here device index n part).slots ≡ after_offer device.config.hw behind.file device.slots
+  pub brought : (here : Arrival) (device : DeviceState) (index n mark : ℕ) (part : List ℕ) (before after : Seen)
+      → IsSeen here device index n part before after → before.verdict ≡ Receiving → after.verdict ≡ Complete mark
+      → (after_data_fragment here device index n part).slots ≡ after_offer device.config.hw after.file device.slots
   -- a session that was whole brings nothing more
-  pub once : (here : Arrival) (device : DeviceState) (index n mark : ℕ) (part : List ℕ) (before behind : Seen)
-      → IsSeen here device index n part before behind → before.verdict ≡ Complete mark
-      → (behind_fragment here device index n part).slots ≡ device.slots
+  pub once : (here : Arrival) (device : DeviceState) (index n mark : ℕ) (part : List ℕ) (before after : Seen)
+      → IsSeen here device index n part before after → before.verdict ≡ Complete mark
+      → (after_data_fragment here device index n part).slots ≡ device.slots
   -- and one that is not whole brings nothing
-  pub no_file : (here : Arrival) (device : DeviceState) (index n : ℕ) (part : List ℕ) (before behind : Seen)
-      → IsSeen here device index n part before behind → ((mark : ℕ) → behind.verdict ≢ Complete mark)
-      → (behind_fragment here device index n part).slots ≡ device.slots
+  pub no_file : (here : Arrival) (device : DeviceState) (index n : ℕ) (part : List ℕ) (before after : Seen)
+      → IsSeen here device index n part before after → ((mark : ℕ) → after.verdict ≢ Complete mark)
+      → (after_data_fragment here device index n part).slots ≡ device.slots

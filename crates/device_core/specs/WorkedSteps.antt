@@ -461,3 +461,27 @@ pub record ConfigSteps : Type 0 where
   pub flash : can_reserve (record (worked_config C 0) { held = true; span = 24640 }) 98560 ≡ true
   pub short_flash : can_reserve (record (worked_config C 0) { held = true; span = 24640 }) 98559 ≡ false
   pub short_span : can_reserve (record (worked_config C 0) { held = true; span = 24639 }) 98560 ≡ false
+
+-- ---- all of them
+
+pub record WorkedSteps : Type 0 where
+  -- uplinks as they are made, held and taken, and what is counted
+  pub uplinks : UplinkSteps
+  -- each request of the four packages makes one uplink
+  pub weights : WeightSteps
+  -- a clock that is mended, and what asks for it
+  pub clock : ClockSteps
+  -- what a session tells that heard fragments
+  pub statuses : StatusSteps
+  -- sessions that are set up, heard, asked and deleted
+  pub sessions : SessionSteps
+  -- the group's key is unwrapped under the device's own
+  pub keys : KeySteps
+  -- groups, and the class sessions in which they are heard
+  pub groups : GroupSteps
+  -- what is heard, and when
+  pub hearing : HearingSteps
+  -- versions, images and reboots
+  pub firmware : FirmwareSteps
+  -- the bounds of a configuration
+  pub configs : ConfigSteps

@@ -18,7 +18,7 @@ ghost use Rattle.device_core.specs.Multicast.{MulticastActs};
 ghost use Rattle.device_core.specs.Power.{PowerIsQuiet};
 ghost use Rattle.device_core.specs.Running.{RunsImagesAlone};
 ghost use Rattle.device_core.specs.WholeFiles.{WholeFiles};
-ghost use Rattle.device_core.specs.WorkedSteps.{UplinkSteps, WeightSteps, ClockSteps, StatusSteps, SessionSteps, KeySteps, GroupSteps, HearingSteps, FirmwareSteps, ConfigSteps};
+ghost use Rattle.device_core.specs.WorkedSteps.{WorkedSteps};
 
 /// A reboot that is due is carried out once.
 pub fn due_reboot_is_once()
@@ -90,15 +90,7 @@ pub fn power_is_quiet()
 {}
 
 /// What a device sends, holds and hears, worked out in bytes.
+#[tactic(auto, using(crate::proofs::WorkedSteps::worked_steps))]
 pub fn worked_steps()
-    ensures uplinks { UplinkSteps }
-    ensures weights { WeightSteps }
-    ensures clock { ClockSteps }
-    ensures statuses { StatusSteps }
-    ensures sessions { SessionSteps }
-    ensures keys { KeySteps }
-    ensures groups { GroupSteps }
-    ensures hearing { HearingSteps }
-    ensures firmware { FirmwareSteps }
-    ensures configs { ConfigSteps }
+    ensures { WorkedSteps }
 {}

@@ -102,6 +102,7 @@ impl Outbox {
         if self.uplinks.len() == 1 {
             self.uplinks.clear();
         } else {
+            // (it is written already)
             let _taken = self.uplinks.remove(0);
         }
     }

@@ -51,9 +51,7 @@ impl QueuedUplink {
         let mut payload = Payload::new();
         spell(answer.port, Direction::Up, &answer.command, &mut payload);
         let mut bytes = ArrayVec::new();
-        if bytes.try_extend_from_slice(payload.as_slice()).is_err() {
-            unreachable!();
-        }
+        bytes.try_extend_from_slice(payload.as_slice()).unwrap();
         QueuedUplink {
             due: answer.due,
             port: answer.port,
@@ -68,6 +66,6 @@ impl QueuedUplink {
     {
         uplink.due = self.due;
         uplink.port = self.port;
-        let _fits = uplink.payload.append(self.bytes.as_slice());
+        uplink.payload.append(self.bytes.as_slice()).unwrap();
     }
 }
