@@ -4,3 +4,6 @@ pub mod Plans
 pub mod Times
 pub mod LineItems
 pub mod Counts
+pub mod SavedBytes
+pub mod Restarts
+pub mod WorkedSaving

@@ -16,7 +16,7 @@ use Rattle.campaign_server.specs.declared.plan.PlanDevice.{PlanDevice}
 use Rattle.campaign_server.specs.declared.stage.Stage.{Stage}
 use Rattle.campaign_server.specs.declared.stage.Stage.TheVariants.{At}
 use Rattle.campaign_server.specs.declared.stage.Request.TheVariants.{Version}
-use Rattle.campaign_server.specs.Server.{ServerState, ledger, first_count}
+use Rattle.campaign_server.specs.Server.{ServerState, IsCount, ledger, first_count}
 use Rattle.wire_base.specs.Numbered.{numbered}
 use Rattle.campaign_server.specs.Asking.{request_at, request_of, by_unicast}
 use Rattle.campaign_server.specs.Answers.{stage_after_all}
@@ -24,7 +24,7 @@ use Rattle.campaign_server.specs.Time.{time_answer}
 use Rattle.campaign_server.specs.Uplinks.{read_uplink}
 use Rattle.frag_model.specs.Limits.{max_frag_size, max_pieces}
 use Rattle.campaign_server.specs.Plan.{Plan, bad_field, is_frag_size, is_group, is_kind, fits_bits, is_window, max_parity, max_devices, max_index}
-use Rattle.campaign_server.specs.ServerInside.{KindFits, WindowFits, GroupFits, IsPlan, IsCount, IsServer}
+use Rattle.campaign_server.specs.ServerInside.{KindFits, WindowFits, GroupFits, IsPlan, IsServer}
 
 -- a test that fails names no field
 passed : (test : Bool) (field : Field) (rest : Option Field) → cond test (Some field) rest ≡ None → (test ≡ false) × (rest ≡ None)
@@ -35,7 +35,7 @@ holds : (test : Bool) → not test ≡ false → test ≡ true
 holds true is = refl
 holds false is = absurd cc
 
-both : (a b : Bool) → (a && b) ≡ true → (a ≡ true) × (b ≡ true)
+pub both : (a b : Bool) → (a && b) ≡ true → (a ≡ true) × (b ≡ true)
 both true b is = (refl, is)
 both false b is = absurd cc
 
@@ -97,9 +97,9 @@ cuts_well len plan fine long (inr (inl none)) = omega (arith, none, fine.some)
 cuts_well len plan fine long (inr (inr (inl large))) = omega (arith, large, fine.fits)
 cuts_well len plan fine long (inr (inr (inr many))) = omega (arith, many, fine.number)
 
-count_fits : (group : Option PlanGroup) → GroupFits group → IsCount group (first_count group)
-count_fits None fits = tt
-count_fits (Some group) fits = omega (arith, fits.0)
+pub count_fits : (group : Option PlanGroup) → GroupFits group → IsCount group (first_count group)
+count_fits None fits = refl
+count_fits (Some group) fits = (omega arith, omega (arith, fits.0))
 
 -- what a server keeps is true at its start
 pub starts : (plan : Plan) (encoder : Encoding) (stages : List Stage) (count : ℕ) → is_image encoder.file ≡ true → IsPlan (length encoder.file) plan → encoder.frag_size ≡ plan.frag_size

@@ -11,3 +11,7 @@ pub mod Framing
 pub mod Counts
 pub mod WorkedSteps
 pub mod ServerInside
+pub mod Saving
+pub mod Restarts
+pub mod WorkedSaving
+pub mod SavingInside

@@ -1,5 +1,5 @@
 -- A server of a campaign: what it is at a moment, and at its start (this project's profile).
-use Rattle.std.specs.Prelude.{ℕ, List, length, replicate, slice_index_or, Option, Some, None}
+use Rattle.std.specs.Prelude.{◌≡◌, ℕ, ◌≤◌, List, length, replicate, slice_index_or, Option, Some, None}
 use Rattle.wire_base.specs.Numbered.{numbered}
 use Rattle.package_grammar.specs.declared.command.Command.{Command}
 use Rattle.package_grammar.specs.declared.downlink.To.{To}
@@ -23,6 +23,11 @@ pub record ServerState : Type 0 where
 abbrev pub first_count : Option PlanGroup → ℕ
 first_count None = 0
 first_count (Some group) = group.min
+
+-- and are from it to the group's MAX; without a group the count stays 0
+abbrev pub IsCount : Option PlanGroup → (count : ℕ) → Type 0
+IsCount None count = count ≡ 0
+IsCount (Some group) count = (group.min ≤ count) × (count ≤ group.max)
 
 -- at its start every device is at version
 abbrev pub first_server : List ℕ → Plan → ServerState

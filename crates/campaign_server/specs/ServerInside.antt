@@ -9,6 +9,7 @@ use Rattle.campaign_server.specs.declared.plan.PlanGroup.{PlanGroup}
 use Rattle.campaign_server.specs.declared.plan.PlanWindow.{PlanWindow}
 use Rattle.campaign_server.specs.declared.stage.Stage.{Stage}
 use Rattle.campaign_server.specs.Plan.{Plan, max_parity, max_devices, max_index}
+use Rattle.campaign_server.specs.Server.{IsCount}
 
 -- the fields of a window are within their bits
 abbrev pub KindFits : Kind → Type 0
@@ -34,11 +35,6 @@ pub record IsPlan (len : ℕ) (plan : Plan) : Type 0 where
   pub group_fits : GroupFits plan.group
   pub window_fits : WindowFits plan.window
   pub devices : length plan.devices ≤ max_devices
-
--- the next frame count is at most the group's MAX
-abbrev pub IsCount : Option PlanGroup → ℕ → Type 0
-IsCount None count = Unit {0}
-IsCount (Some group) count = count ≤ group.max
 
 -- an encoder of an image file, cut as the plan says
 pub record IsCut (plan : Plan) (encoder : Encoding) : Type 0 where

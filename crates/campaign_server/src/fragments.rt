@@ -5,9 +5,10 @@ ghost use Rattle.frag_encoder.specs.Encoding.{nb_frag_of, data_of};
 ghost use Rattle.package_grammar.specs.declared.command.Command.TheVariants.{Cast};
 ghost use Rattle.cast_wire.specs.declared.cmd.Cmd.TheVariants.{DataFragment, FragSessionStatusReq};
 ghost use Rattle.campaign_server.specs.Plan.{max_index};
-ghost use Rattle.campaign_server.specs.Server.{downlink_of};
+ghost use Rattle.campaign_server.specs.Server.{IsCount, downlink_of};
 ghost use Rattle.campaign_server.specs.Fragments.{receivers, has_no_count, next_count};
-ghost use Rattle.campaign_server.specs.ServerInside.{IsCut, IsCount};
+ghost use Rattle.campaign_server.specs.ServerInside.{IsCut};
+ghost use Rattle.campaign_server.specs.SavingInside.{is_count};
 
 use crate::plan::{Plan, PlanGroup};
 use crate::spelling::downlink;
@@ -48,6 +49,17 @@ pub fn has_no_count(group: Option<PlanGroup>, count: u32) -> bool
     match group {
         Some(group) => count == group.max,
         None => false,
+    }
+}
+
+/// Whether the group's next frame count can be this: from its MIN to its MAX, and without a group 0.
+pub fn is_count(group: Option<PlanGroup>, count: u32) -> bool
+    ensures value { result ≡ is_count group count }
+    ensures within { result ≡ true → IsCount group count }
+{
+    match group {
+        Some(group) => group.min <= count && count <= group.max,
+        None => count == 0,
     }
 }
 

@@ -22,6 +22,8 @@ ghost use Rattle.campaign_server.specs.Framing.{session_keys, group_frame};
 ghost use Rattle.campaign_server.specs.Uplinks.{uplink_step};
 ghost use Rattle.campaign_server.specs.Wrapping.{wrapped_key};
 ghost use Rattle.campaign_server.specs.Counts.{CountsOnce};
+ghost use Rattle.campaign_server.specs.Restarts.{LastsThroughRestarts};
+ghost use Rattle.campaign_server.specs.WorkedSaving.{SavingSteps};
 ghost use Rattle.campaign_server.specs.WorkedSteps.{AskSteps, AnswerSteps, TimeSteps, SendSteps, PlanSteps};
 
 use mc_frames::frame_holds_what_it_was_made_of;
@@ -87,6 +89,13 @@ pub fn a_count_is_sent_once()
     ensures { CountsOnce }
 {}
 
+/// No two servers of one plan and image have the same saved bytes; and over any run of calls of a new server, ends and
+/// restored servers between them change neither what the calls answer nor the server behind them.
+#[tactic(auto, using(crate::proofs::Restarts::lasts))]
+pub fn a_server_lasts_through_restarts()
+    ensures { LastsThroughRestarts }
+{}
+
 /// What a server asks and sends, and where answers lead, worked out in bytes.
 pub fn worked_steps()
     ensures asking { AskSteps }
@@ -94,4 +103,5 @@ pub fn worked_steps()
     ensures times { TimeSteps }
     ensures sending { SendSteps }
     ensures plans { PlanSteps }
+    ensures saving { SavingSteps }
 {}

@@ -18,6 +18,7 @@ mod fragments;
 mod framing;
 mod laws;
 mod plan;
+mod saving;
 mod server;
 mod spelling;
 mod stage;
@@ -26,9 +27,10 @@ mod time;
 pub use fragments::Spent;
 pub use laws::{
     a_count_is_sent_once, a_device_unwraps_the_key, a_frame_is_opened,
-    a_refused_uplink_changes_nothing, an_answer_moves_once, an_end_is_final, worked_steps,
-    wrapped_key_is_the_one,
+    a_refused_uplink_changes_nothing, a_server_lasts_through_restarts, an_answer_moves_once,
+    an_end_is_final, worked_steps, wrapped_key_is_the_one,
 };
 pub use plan::{Field, Kind, Plan, PlanDevice, PlanGroup, PlanWindow};
+pub use saving::{MAX_SAVED, RestoreError, SavedServer};
 pub use server::{Server, ServerError};
 pub use stage::{Request, Stage};

@@ -1,27 +1,33 @@
 //! The server of a campaign: its record, and its calls.
 
-ghost use Rattle.std.specs.Prelude.{◌≡◌, ◌↔◌, ◌≤◌, Err, IfOk, is_ok, is_some, None, Some, length, replicate, true};
+ghost use Rattle.std.specs.Prelude.{◌≡◌, ◌⊎◌, ◌↔◌, ◌^◌, ◌<◌, ◌≤◌, Ok, Err, IfOk, is_ok, is_some, None, Some, length, replicate, true};
 ghost use Rattle.image_slots.specs.Image.{is_image};
 ghost use Rattle.frag_encoder.specs.Encoding.{nb_frag_of, padding_of};
 ghost use Rattle.campaign_server.specs.declared.plan.Field.{Field};
 ghost use Rattle.campaign_server.specs.declared.stage.Stage.TheVariants.{At};
 ghost use Rattle.campaign_server.specs.declared.stage.Request.TheVariants.{Version};
 ghost use Rattle.campaign_server.specs.Plan.{bad_field};
-ghost use Rattle.campaign_server.specs.Server.{first_server, first_count, ledger};
+ghost use Rattle.campaign_server.specs.Server.{ServerState, first_server, first_count, ledger};
 ghost use Rattle.wire_base.specs.Numbered.{numbered};
+ghost use Rattle.wire_base.specs.Numbers.{number_at};
 ghost use Rattle.campaign_server.specs.Asking.{request_of};
 ghost use Rattle.campaign_server.specs.Fragments.{last_fragment, next_fragment, after_fragment, status_to_all, after_status_to_all};
 ghost use Rattle.campaign_server.specs.Uplinks.{uplink_step};
 ghost use Rattle.campaign_server.specs.ServerInside.{IsPlan};
 ghost use Rattle.campaign_server.specs.Sent.{down_of, result_of, answer_of};
 ghost use Rattle.campaign_server.specs.Framing.{has_frame, frame_for};
+ghost use Rattle.campaign_server.specs.Saving.{IsOver, saved_of};
+ghost use Rattle.campaign_server.specs.SavingInside.{fits, told_of};
 
 use crate::answers::stage_after_all;
 use crate::asking::request;
 use crate::checks::bad_field;
-use crate::fragments::{Spent, fragment, has_no_count, next_count, receivers, status_of_all};
+use crate::fragments::{
+    Spent, fragment, has_no_count, is_count, next_count, receivers, status_of_all,
+};
 use crate::framing::{is_to_group, keys_of};
 use crate::plan::{Field, Plan, PlanDevice, PlanGroup};
+use crate::saving::{HEAD, RestoreError, SavedServer, read_stages, restore_error, saved_of};
 use crate::stage::{Request, Stage};
 use crate::time::time_answer;
 use frag_encoder::{Encoder, EncoderError};
@@ -30,7 +36,7 @@ use package_grammar::{Downlink, Message, To};
 use std::alloc::{AllocError, Global};
 use std::marker::Model;
 use thiserror::Error;
-use wire_base::{Direction, Refusal};
+use wire_base::{Direction, Refusal, u16_at, u32_at};
 
 /// Why there is no server.
 #[derive(Clone, Copy, Debug, PartialEq, Eq, Error)]
@@ -112,6 +118,72 @@ impl Server {
             count,
             keys,
         })
+    }
+
+    /// What it knows, as bytes that `restore` takes again: to be kept before what it sends next goes out. They say which
+    /// plan and image they belong to, and hold neither. It takes no memory.
+    pub fn save(&self) -> SavedServer
+        ensures { result.items ≡ saved_of self.now }
+    {
+        saved_of(
+            &self.plan,
+            self.encoder.file(),
+            &self.stages,
+            self.next,
+            self.count,
+        )
+    }
+
+    #[tactic(auto, using(crate::proofs::SavedBytes::read_back, crate::proofs::SavedBytes::over_told))]
+    /// The server whose bytes these are, with this plan and image, which is to be an image file. `BadPlan` comes as at
+    /// `new`, and before `Corrupt`, which comes where no server of this plan and image has these bytes.
+    pub fn restore(
+        alloc: Global,
+        plan: Plan,
+        image: &[u8],
+        bytes: &[u8],
+    ) -> Result<Server, RestoreError>
+        requires { is_image image.now ≡ true }
+        ensures ok { IfOk result (λ s. IsOver plan image.now s × (saved_of s ≡ bytes.now)) }
+        ensures restored { (server : ServerState) → IsOver plan image.now server
+            → saved_of server ≡ bytes.now → (result ≡ Ok server) ⊎ (result ≡ Err RestoreError.Memory) }
+        ensures bad_plan { (field : Field) → (result ≡ Err (RestoreError.BadPlan field))
+            ↔ (bad_field (length image.now) plan ≡ Some field) }
+    {
+        let mut server = match Server::new(alloc, plan, image) {
+            Ok(server) => server,
+            Err(error) => return Err(restore_error(error)),
+        };
+        if server.take(bytes) && server.save().as_slice() == bytes {
+            Ok(server)
+        } else {
+            Err(RestoreError::Corrupt)
+        }
+    }
+
+    /// Takes the fields of bytes that need not be those of a server. False, where one is out of range, changes nothing.
+    fn take(&mut self, bytes: &[u8]) -> bool
+        ensures value { result ≡ fits self.old bytes.now }
+        ensures taken { result ≡ true → self.new ≡ told_of self.old bytes.now }
+        ensures width { result ≡ true → number_at bytes.now 7 4 < 2 ^ 32 }
+        ensures same { result ≡ false → self.new ≡ self.old }
+    {
+        let number = self.stages.len();
+        if bytes.len() < HEAD + 2 * number {
+            return false;
+        }
+        let next = u16_at(bytes, 5);
+        let count = u32_at(bytes, 7);
+        if next < 1
+            || next > self.encoder.nb_frag() + self.plan.parity + 1
+            || !is_count(self.plan.group, count)
+        {
+            return false;
+        }
+        read_stages(&mut self.stages, bytes);
+        self.next = next;
+        self.count = count;
+        true
     }
 
     /// What the server asks of device `dev` now, by unicast. None at updated and refused, and at a stage whose part the

@@ -1,3 +1,4 @@
+use Rattle.campaign_server.proofs.WorkedSaving.{saving}
 use Rattle.campaign_server.proofs.WorkedSteps.{asking, answers, times, sending, plans}
 use Rattle.campaign_server.proofs.laws.worked_steps.Goals as goal
 
@@ -15,3 +16,6 @@ returns-clause-sending c = sending
 
 pub returns-clause-plans : goal.returns-clause-plans
 returns-clause-plans c = plans
+
+pub returns-clause-saving : goal.returns-clause-saving
+returns-clause-saving c = saving
