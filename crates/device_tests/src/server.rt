@@ -4,8 +4,8 @@ ghost use Rattle.std.specs.Prelude.{◌≡◌, length};
 
 use crate::common::{CONFIG, IMAGE, no_flash};
 use campaign_server::{
-    Field, Kind, Plan, PlanDevice, PlanGroup, PlanWindow, Request, Server, ServerError, Spent,
-    Stage,
+    Field, Kind, Plan, PlanDevice, PlanGroup, PlanWindow, Request, RestoreError, Server,
+    ServerError, Spent, Stage,
 };
 use device_core::{Aired, Delivered, Device, DeviceConfig};
 use flash_session::CellFlash;
@@ -27,6 +27,14 @@ static FRAMES: [&[u8]; 2] = [
     &[
         0x60, 0x44, 0x33, 0x22, 0x11, 0x00, 0x01, 0x00, 0xc9, 0x14, 0x33, 0x7a, 0x74, 0x7a, 0xf7,
     ],
+];
+
+/// What a server of `GROUP` and one device saves behind the first fragment and the device's answer to the first request;
+/// made with Python's `hashlib` from the table of `Saving.antt`.
+static SAVED: [u8; 46] = [
+    0x46, 0x55, 0x53, 0x53, 0x01, 0x02, 0x00, 0x01, 0x00, 0x00, 0x00, 0x01, 0x01, 0x00, 0x44, 0xfc,
+    0x91, 0x5d, 0xea, 0xd1, 0x7b, 0xd3, 0xa1, 0x17, 0x63, 0xf5, 0x0a, 0x63, 0xfc, 0xf6, 0x15, 0x25,
+    0xfa, 0x6c, 0xbd, 0x2b, 0x4e, 0xb7, 0x3b, 0xd5, 0x5a, 0xb2, 0x81, 0xd1, 0xe2, 0x66,
 ];
 
 const GROUP: PlanGroup = PlanGroup {
@@ -589,6 +597,43 @@ fn counts_of_a_group_end_with_its_fragments(rt: HostRuntime) {
     assert!(rt; even.fragment().is_ok() && even.fragment().is_ok());
     assert!(rt; matches!(even.fragment(), Err(Spent::Fragments)));
     drop(even);
+}
+
+/// Whether these bytes are refused to the plan of `SAVED`.
+fn is_corrupt(rt: &impl Abort, alloc: Global, bytes: &[u8]) -> bool {
+    let plan = plan(rt, alloc, 13, 4, Some(GROUP), Some(WINDOW), 1);
+    assert!(rt; is_image(&IMAGE));
+    matches!(
+        Server::restore(alloc, plan, &IMAGE, bytes),
+        Err(RestoreError::Corrupt)
+    )
+}
+
+#[test]
+fn a_saved_server_is_restored(rt: HostRuntime) {
+    let mut campaign = with_group(&rt, rt.alloc(), 13, 4, GROUP);
+    assert!(rt; campaign.fragment().is_ok());
+    let version = [0x01, 0, 0, 0, 0, 0x01, 0, 0, 0];
+    assert!(rt; campaign.after(&rt, 203, &version) == Stage::At(Request::Group));
+    assert!(rt; campaign.server.save().as_slice() == SAVED.as_slice());
+    drop(campaign);
+    let plan = plan(&rt, rt.alloc(), 13, 4, Some(GROUP), Some(WINDOW), 1);
+    assert!(rt; is_image(&IMAGE));
+    match Server::restore(rt.alloc(), plan, &IMAGE, &SAVED) {
+        Ok(again) => assert!(rt; again.save().as_slice() == SAVED.as_slice()),
+        Err(_) => panic!(rt; "not restored"),
+    }
+}
+
+#[test]
+fn other_bytes_are_corrupt(rt: HostRuntime) {
+    let mut bytes = SAVED;
+    for k in 0..bytes.len() {
+        bytes[k] ^= 1;
+        assert!(rt; is_corrupt(&rt, rt.alloc(), &bytes));
+        bytes[k] ^= 1;
+        assert!(rt; is_corrupt(&rt, rt.alloc(), &bytes[..k]));
+    }
 }
 
 fn device(rt: &impl Abort, alloc: Global) -> Device<CellFlash> {
