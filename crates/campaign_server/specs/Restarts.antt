@@ -2,7 +2,7 @@
 use Rattle.std.specs.Prelude.{◌≡◌, ℕ, ◌^◌, ◌<◌, List, [], ◌∷◌, length, Option, Some, None, Result}
 use Rattle.wire_base.specs.declared.refusal.Refusal.{Refusal}
 use Rattle.campaign_server.specs.declared.plan.PlanGroup.{PlanGroup}
-use Rattle.campaign_server.specs.declared.fragments.NothingLeft.{NothingLeft}
+use Rattle.campaign_server.specs.declared.fragments.Spent.{Spent}
 use Rattle.campaign_server.specs.Plan.{Plan, bad_field}
 use Rattle.campaign_server.specs.Server.{ServerState, DownlinkCommand, first_server}
 use Rattle.campaign_server.specs.Fragments.{next_fragment, status_to_all}
@@ -14,7 +14,7 @@ use Rattle.campaign_server.specs.Saving.{saved_of, IsOver}
 
 -- what a call answers: the payload, or that there is none
 pub data Told : Type 0 where
-  Fragment : Result DownlinkCommand NothingLeft → Told
+  Fragment : Result DownlinkCommand Spent → Told
   ToAll : Option DownlinkCommand → Told
   Answer : Result (Option DownlinkCommand) Refusal → Told
 
