@@ -5,7 +5,7 @@ ghost use Rattle.frag_encoder.specs.Encoding.{nb_frag_of, data_of};
 ghost use Rattle.package_grammar.specs.declared.command.Command.TheVariants.{Cast};
 ghost use Rattle.cast_wire.specs.declared.cmd.Cmd.TheVariants.{DataFragment, FragSessionStatusReq};
 ghost use Rattle.campaign_server.specs.Plan.{max_index};
-ghost use Rattle.campaign_server.specs.Server.{IsCount, downlink_of};
+ghost use Rattle.campaign_server.specs.Server.{IsCount, downlink_of, first_count};
 ghost use Rattle.campaign_server.specs.Fragments.{receivers, has_no_count, next_count};
 ghost use Rattle.campaign_server.specs.ServerInside.{IsCut};
 ghost use Rattle.campaign_server.specs.SavingInside.{is_count};
@@ -49,6 +49,16 @@ pub fn has_no_count(group: Option<PlanGroup>, count: u32) -> bool
     match group {
         Some(group) => count == group.max,
         None => false,
+    }
+}
+
+/// The first frame count, the group's MIN.
+pub fn first_count(group: Option<PlanGroup>) -> u32
+    ensures { result ≡ first_count group }
+{
+    match group {
+        Some(group) => group.min,
+        None => 0,
     }
 }
 

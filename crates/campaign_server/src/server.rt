@@ -23,10 +23,10 @@ use crate::answers::stage_after_all;
 use crate::asking::request;
 use crate::checks::bad_field;
 use crate::fragments::{
-    Spent, fragment, has_no_count, is_count, next_count, receivers, status_of_all,
+    Spent, first_count, fragment, has_no_count, is_count, next_count, receivers, status_of_all,
 };
 use crate::framing::{is_to_group, keys_of};
-use crate::plan::{Field, Plan, PlanDevice, PlanGroup};
+use crate::plan::{Field, Plan, PlanDevice};
 use crate::saving::{HEAD, RestoreError, SavedServer, read_stages, restore_error, saved_of};
 use crate::stage::{Request, Stage};
 use crate::time::time_answer;
@@ -373,16 +373,6 @@ fn first_stages(alloc: Global, count: usize) -> Result<Vec<Stage>, AllocError>
     let mut stages = Vec::new(alloc);
     stages.resize(count, Stage::At(Request::Version))?;
     Ok(stages)
-}
-
-/// Frame counts begin with the group's MIN.
-fn first_count(group: Option<PlanGroup>) -> u32
-    ensures { result ≡ first_count group }
-{
-    match group {
-        Some(group) => group.min,
-        None => 0,
-    }
 }
 
 /// The device with a number of the plan.
