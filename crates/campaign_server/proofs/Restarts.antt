@@ -1,4 +1,4 @@
--- What holds of a server holds behind each of its calls, and through restarts.
+-- What holds of a server holds after each of its calls, and through restarts.
 use Rattle.std.proofs.Common.{◌≡◌, ℕ, ◌+◌, ◌^◌, ◌<◌, ◌≤◌, Bool, true, false, nat_lt, List, [], ◌∷◌, length, ◌-◌, Option, Some, None, Ok, Err, refl, ap, ◌∙◌, subst, arith}
 use Rattle.std.proofs.lemmas.Bool.{eqb-false, ltb-false}
 use Rattle.std.proofs.lemmas.List.{length-set, length-replicate}

@@ -76,7 +76,7 @@ length-stages [] = refl
 length-stages (stage ∷ stages) =
     omega (arith, length-append (stage_bytes stage) (flat_map stage_bytes stages), length-stage_bytes stage, length-stages stages)
 
--- ---- the stages behind 12 bytes
+-- ---- the stages after 12 bytes
 
 byte_of : (head more : List ℕ) (stages : List Stage) (k j : ℕ) → length head ≡ 12 → k < length stages → j < 2
     → get_or (head ++ flat_map stage_bytes stages ++ more) (12 + 2 * k + j) 0 ≡ get_or (stage_bytes (get_or stages k Updated)) j 0

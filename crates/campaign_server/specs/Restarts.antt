@@ -23,7 +23,7 @@ told_by server NextFragment = Fragment (next_fragment server)
 told_by server StatusAll = ToAll (status_to_all server)
 told_by server (Uplink dev port payload t) = Answer (uplink_step server dev port payload t).answer
 
--- those of one call after another, and the server behind them
+-- those of one call after another, and the server after them
 abbrev pub all_told : ServerState → List Call → List Told
 all_told server [] = []
 all_told server (call ∷ calls) = told_by server call ∷ all_told (after_call server call) calls
@@ -48,7 +48,7 @@ calls_of (Restarts ∷ steps) = calls_of steps
 abbrev pub IsRestored : (server again : ServerState) → Type 0
 IsRestored server again = IsOver server.plan server.image again × (saved_of again ≡ saved_of server)
 
--- what the steps tell, and the server behind them
+-- what the steps tell, and the server after them
 abbrev pub Leads : ServerState → List Step → List Told → ServerState → Type 0
 Leads server [] told last = (told ≡ []) × (last ≡ server)
 Leads server (Calls call ∷ steps) told last =
@@ -65,12 +65,12 @@ pub record LastsThroughRestarts : Type 0 where
   -- no two records of one plan and image have the same bytes
   pub apart : (plan : Plan) (image : List ℕ) (a b : ServerState) → IsOver plan image a → IsOver plan image b
       → saved_of a ≡ saved_of b → a ≡ b
-  -- from a new server on, restarts change neither what the calls tell nor the server behind them
+  -- from a new server on, restarts change neither what the calls tell nor the server after them
   pub same : (plan : Plan) (image : List ℕ) (steps : List Step) (told : List Told) (last : ServerState)
       → bad_field (length image) plan ≡ None → HasWidth plan.group → Leads (first_server image plan) steps told last
       → let calls = calls_of steps in
       (told ≡ all_told (first_server image plan) calls) × (last ≡ after_calls (first_server image plan) calls)
-  -- and of the server behind any calls the bytes are those of a server that can be restored
+  -- and of the server after any calls the bytes are those of a server that can be restored
   pub restorable : (plan : Plan) (image : List ℕ) (calls : List Call)
       → bad_field (length image) plan ≡ None → HasWidth plan.group
       → IsOver plan image (after_calls (first_server image plan) calls)

@@ -1,4 +1,4 @@
--- What a server knows, as bytes (this project's profile). Plan and image are not among them: the digest behind them says
+-- What a server knows, as bytes (this project's profile). Plan and image are not among them: the digest after them says
 -- to which they belong. Numbers of several bytes have the lowest first.
 --    0  FUSS, and the format, 1
 --    5  the number of the fragment that is sent next, of 2 bytes
@@ -89,7 +89,7 @@ saved_of server =
 -- ---- of which records
 
 -- a record that a server of this plan and image can have: a stage a device, the next fragment one of those that are sent or
--- behind them, and the next frame count from the group's MIN to its MAX, a number of four bytes
+-- after them, and the next frame count from the group's MIN to its MAX, a number of four bytes
 pub record IsOver (plan : Plan) (image : List ℕ) (server : ServerState) : Type 0 where
   pub plan_is : server.plan ≡ plan
   pub image_is : server.image ≡ image

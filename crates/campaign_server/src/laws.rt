@@ -90,7 +90,7 @@ pub fn a_count_is_sent_once()
 {}
 
 /// No two servers of one plan and image have the same saved bytes; and over any run of calls of a new server, ends and
-/// restored servers between them change neither what the calls answer nor the server behind them.
+/// restored servers between them change neither what the calls answer nor the server after them.
 #[tactic(auto, using(crate::proofs::Restarts::lasts))]
 pub fn a_server_lasts_through_restarts()
     ensures { LastsThroughRestarts }
