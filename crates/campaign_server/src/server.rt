@@ -1,6 +1,6 @@
 //! The server of a campaign: its record, and its calls.
 
-ghost use Rattle.std.specs.Prelude.{◌≡◌, ◌⊎◌, ◌↔◌, ◌^◌, ◌<◌, ◌≤◌, Ok, Err, IfOk, is_ok, is_some, None, Some, length, replicate, true};
+ghost use Rattle.std.specs.Prelude.{◌≡◌, ◌⊎◌, ◌↔◌, ◌^◌, ◌<◌, ◌≤◌, Ok, Err, IfOk, is_ok, is_some, None, Some, length, replicate, true, false};
 ghost use Rattle.image_slots.specs.Image.{is_image};
 ghost use Rattle.frag_encoder.specs.Encoding.{nb_frag_of, padding_of};
 ghost use Rattle.campaign_server.specs.declared.plan.Field.{Field};
