@@ -41,12 +41,6 @@ next_text (image.Valid version) = codes "valid " ⧺ decimal version
 
 -- ---- lines
 
--- device NAME STAGE clock OFFSET token T running V next NEXT
-abbrev pub device_text : (name stage : List ℕ) → (offset token running : ℕ) → (next : List ℕ) → List ℕ
-device_text name stage offset token running next =
-    codes "device " ⧺ name ⧺ codes " " ⧺ stage ⧺ codes " clock " ⧺ decimal offset ⧺ codes " token " ⧺ decimal token
-    ⧺ codes " running " ⧺ decimal running ⧺ codes " next " ⧺ next ⧺ codes "\n"
-
 -- what it shows of a device
 abbrev pub standing_of : DeviceState → Standing
 standing_of device = record {
@@ -56,9 +50,16 @@ standing_of device = record {
   next = device.slots.next;
 }
 
+-- clock OFFSET token T running V next NEXT
+abbrev pub standing_text : Standing → List ℕ
+standing_text stands =
+    codes "clock " ⧺ decimal stands.offset ⧺ codes " token " ⧺ decimal stands.token
+    ⧺ codes " running " ⧺ decimal stands.running ⧺ codes " next " ⧺ next_text stands.next
+
+-- device NAME STAGE, and how it stands
 abbrev pub standing_line : (name : List ℕ) → Stage → Standing → List ℕ
 standing_line name stage stands =
-    device_text name (stage_text stage) stands.offset stands.token stands.running (next_text stands.next)
+    codes "device " ⧺ name ⧺ codes " " ⧺ stage_text stage ⧺ codes " " ⧺ standing_text stands ⧺ codes "\n"
 
 abbrev pub device_line : (name : List ℕ) → Stage → DeviceState → List ℕ
 device_line name stage device = standing_line name stage (standing_of device)

@@ -11,7 +11,7 @@ use Rattle.campaign_server.specs.declared.stage.Stage.TheVariants.{At, Updated, 
 use Rattle.campaign_server.specs.declared.stage.Request.TheVariants as request
 use Rattle.report_lines.specs.declared.faults.LineWhy.TheVariants as why
 use Rattle.report_lines.specs.Faults.{fault_line}
-use Rattle.report_lines.specs.Devices.{stage_text, next_text, device_text, device_line, counts_line}
+use Rattle.report_lines.specs.Devices.{stage_text, next_text, standing_line, device_line, counts_line}
 use Rattle.report_lines.specs.Sessions.{ToldFile, same, whole, same_word, verdict_text, session_text, session_line}
 
 -- a device whose numbers all differ: its clock is 7 s ahead and its next token 3, it runs version 2 and version 5 is next
@@ -57,7 +57,8 @@ pub record AreLines : Type 0 where
   pub incompatible : next_text next.Incompatible ≡ codes "incompatible"
   pub valid : next_text (next.Valid 2) ≡ codes "valid 2"
   -- of a device
-  pub device_words : device_text (codes "3") (codes "check") 4294967295 15 2 (codes "none")
+  pub device_words : standing_line (codes "3") (At request.Check)
+      (record { offset = 4294967295; token = 15; running = 2; next = next.None })
       ≡ codes "device 3 check clock 4294967295 token 15 running 2 next none\n"
   pub device : device_line (codes "1") Updated worked_device ≡ codes "device 1 updated clock 7 token 3 running 2 next valid 5\n"
   pub device_named : device_line (codes "2 b") (At request.Status) worked_device

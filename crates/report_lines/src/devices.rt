@@ -1,15 +1,16 @@
 //! The lines of a device: where it stands, and what it counted.
 
-ghost use Rattle.std.specs.Prelude.{◌≡◌, codes};
+ghost use Rattle.std.specs.Prelude.{◌≡◌, Some, codes};
 ghost use Rattle.std.specs.Fmt.{decimal};
 ghost use Rattle.report_lines.specs.Texts.{IsText};
-ghost use Rattle.report_lines.specs.Devices.{◌⧺◌, request_word, stage_text, next_text, standing_of, standing_line, counts_line};
+ghost use Rattle.report_lines.specs.Devices.{◌⧺◌, request_word, stage_text, next_text, standing_of, standing_text, standing_line, counts_line};
 
 use campaign_server::{Request, Stage};
 use device_core::{Counts, Device};
 use flash_session::Flash;
 use image_slots::ImageState;
 use std::alloc::{AllocError, Global};
+use std::fmt::{self, Display, Formatter, Write};
 
 /// What a device's line shows of it.
 #[derive(Clone, Copy, Debug, PartialEq, Eq)]
@@ -42,6 +43,24 @@ impl Standing {
     }
 }
 
+impl Display for Standing {
+    ghost output = { λ stands. Some (standing_text stands) };
+
+    fn fmt<W: Write>(&self, f: &mut Formatter<W>) -> fmt::Result {
+        let Standing {
+            offset,
+            token,
+            running,
+            next,
+        } = *self;
+        let next = NextText(next);
+        write!(
+            f,
+            "clock {offset} token {token} running {running} next {next}"
+        )
+    }
+}
+
 /// The line of a device: its name in the report (the ID), its stage, its clock's offset in s, the token of its next request
 /// for the time, the version that it runs and what it runs next.
 pub fn device_line(
@@ -52,44 +71,25 @@ pub fn device_line(
 ) -> Result<String, AllocError>
     ensures { IsText result (standing_line name.now stage stands) }
 {
-    let stage = stage_text(alloc, stage)?;
-    let next = next_text(alloc, stands.next)?;
-    let first = stands_text(alloc, name, stage.as_str(), stands.offset, stands.token)?;
-    device_text(alloc, first.as_str(), stands.running, next.as_str())
-}
-
-fn stands_text(
-    alloc: Global,
-    name: &str,
-    stage: &str,
-    offset: u32,
-    token: u8,
-) -> Result<String, AllocError>
-    ensures { IsText result
-        (codes "device " ⧺ name.now ⧺ codes " " ⧺ stage.now
-        ⧺ codes " clock " ⧺ decimal offset ⧺ codes " token " ⧺ decimal token) }
-{
-    format!(in alloc; "device {name} {stage} clock {offset} token {token}")
-}
-
-fn device_text(alloc: Global, stands: &str, running: u32, next: &str) -> Result<String, AllocError>
-    ensures { IsText result
-        (stands.now ⧺ codes " running " ⧺ decimal running
-        ⧺ codes " next " ⧺ next.now ⧺ codes "\n") }
-{
-    format!(in alloc; "{stands} running {running} next {next}\n")
+    let stage = StageText(stage);
+    format!(in alloc; "device {name} {stage} {stands}\n")
 }
 
 /// Where a device stands in the campaign, as its line says it.
-fn stage_text(alloc: Global, stage: Stage) -> Result<String, AllocError>
-    ensures { IsText result (stage_text stage) }
-{
-    match stage {
-        Stage::At(request) => String::from_str(alloc, request_word(request)),
-        Stage::Updated => String::from_str(alloc, "updated"),
-        Stage::Refused { request, bits } => {
-            let word = request_word(request);
-            format!(in alloc; "refused {word} {bits}")
+#[derive(Clone, Copy)]
+struct StageText(Stage);
+
+impl Display for StageText {
+    ghost output = { λ text. Some (stage_text text.0) };
+
+    fn fmt<W: Write>(&self, f: &mut Formatter<W>) -> fmt::Result {
+        match self.0 {
+            Stage::At(request) => f.write_str(request_word(request)),
+            Stage::Updated => f.write_str("updated"),
+            Stage::Refused { request, bits } => {
+                let word = request_word(request);
+                write!(f, "refused {word} {bits}")
+            }
         }
     }
 }
@@ -109,14 +109,20 @@ fn request_word(request: Request) -> &'static str
     }
 }
 
-fn next_text(alloc: Global, next: ImageState) -> Result<String, AllocError>
-    ensures { IsText result (next_text next) }
-{
-    match next {
-        ImageState::None => String::from_str(alloc, "none"),
-        ImageState::Corrupt => String::from_str(alloc, "corrupt"),
-        ImageState::Incompatible => String::from_str(alloc, "incompatible"),
-        ImageState::Valid(version) => format!(in alloc; "valid {version}"),
+/// What a device runs next, as its line says it.
+#[derive(Clone, Copy)]
+struct NextText(ImageState);
+
+impl Display for NextText {
+    ghost output = { λ text. Some (next_text text.0) };
+
+    fn fmt<W: Write>(&self, f: &mut Formatter<W>) -> fmt::Result {
+        match self.0 {
+            ImageState::None => f.write_str("none"),
+            ImageState::Corrupt => f.write_str("corrupt"),
+            ImageState::Incompatible => f.write_str("incompatible"),
+            ImageState::Valid(version) => write!(f, "valid {version}"),
+        }
     }
 }
 
