@@ -242,8 +242,5 @@ fn put(all: &mut Vec<u8>, bytes: &[u8])
     ensures len { vec_len all.new ≡ vec_len all.old + length bytes.now }
     ensures capacity { vec_capacity all.old ≤ vec_capacity all.new }
 {
-    match all.extend_from_slice(bytes) {
-        Ok(()) => {}
-        Err(_) => unreachable!(),
-    }
+    all.extend_from_slice(bytes).unwrap();
 }

@@ -83,9 +83,8 @@ impl World {
         requires room { self.old.lines < max_lines }
         ensures taken { OnOk result (WorldBecomes self.old self.new
             (λ world. after_line world (Ok (Reached device word down.now)))) }
-        ensures memory { IfErr result (λ e. e ≡ LineError.Memory) }
         ensures kept { OnOk result (self.new.kept ≡ self.old.kept) }
-        ensures keeps { IfErr result (λ e. self.new.kept ≡ Some e) }
+        ensures memory { IfErr result (λ e. (e ≡ LineError.Memory) × (self.new.kept ≡ Some e)) }
         ensures ends { OnErr result (KeepsEnds self.old self.new) }
     {
         match self.phase.reach(self.alloc, self.lines, device, down, word) {

@@ -208,9 +208,7 @@ impl Campaign {
         ensures ends { OnErr result (SameEnds self.old self.new) }
     {
         let moment = self.moment(lines, word);
-        let Some(sent) = self.sent.number(number) else {
-            unreachable!()
-        };
+        let sent = self.sent.number(number).unwrap();
         happen(
             &mut self.devices,
             self.alloc,

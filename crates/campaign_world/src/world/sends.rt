@@ -85,9 +85,7 @@ impl Campaign {
             Ok(()) => {}
             Err(error) => return Err(error),
         }
-        let Some(made) = self.uplinks.number(number) else {
-            unreachable!()
-        };
+        let made = self.uplinks.number(number).unwrap();
         send_answer(&mut self.sent, &mut self.server, &made, self.time);
         Ok(())
     }

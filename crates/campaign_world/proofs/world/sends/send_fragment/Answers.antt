@@ -7,4 +7,4 @@ use Rattle.campaign_world.proofs.world.sends.send_fragment.Goals as goal
 pub returns-clause-sent : goal.returns-clause-sent
 returns-clause-sent c = c.keep.ensures
     ∙ ap (λ (d : Option Downlink). c.args.sent.now.items ++ sent_by None d)
-    (c.ok.ensures ∙ fragment_sent c.next_fragment.result _ c.next_fragment.ensures.sent)
+    (c.ok.ensures.value ∙ fragment_sent c.next_fragment.result _ c.next_fragment.ensures.sent)
