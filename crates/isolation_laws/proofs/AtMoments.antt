@@ -28,10 +28,8 @@ use Rattle.campaign_world.specs.Report.{numbered_lines}
 use Rattle.campaign_world.proofs.Zips.{numbered_found}
 use Rattle.campaign_laws.proofs.HonestLines.{Stands}
 use Rattle.pair_run.specs.Counting.{IsAlike}
-use Rattle.pair_run.specs.declared.targets.Target.{Target}
-use Rattle.pair_run.specs.declared.targets.Target.TheVariants.{At}
+use Rattle.pair_run.specs.Targets.{Target, At, target_of}
 use Rattle.pair_run.specs.Pair.{PairState, first_pair, side, other}
-use Rattle.pair_run.specs.Targets.{target_of}
 use Rattle.pair_run.specs.PairCauses.{pair_cause_of, common_cause, target_cause, target_in}
 use Rattle.pair_run.specs.PairMaking.{said_to, after_target}
 use Rattle.pair_run.specs.PairReport.{pair_name}

@@ -33,8 +33,7 @@ use Rattle.pair_run.specs.Counting.{IsAlike}
 use Rattle.pair_run.specs.Sides.{is_quiet}
 use Rattle.pair_run.specs.declared.owners.Owner.{Owner}
 use Rattle.pair_run.specs.declared.targets.Way.{Way}
-use Rattle.pair_run.specs.declared.targets.Target.{Target}
-use Rattle.pair_run.specs.declared.targets.Target.TheVariants.{Header, At, End, One, Across, Nobody}
+use Rattle.pair_run.specs.Targets.{Target, Header, At, End, One, Across, Nobody}
 use Rattle.pair_run.specs.Pair.{PairState, side, other}
 use Rattle.pair_run.specs.PairCauses.{pair_cause_of, common_cause, both_cause, crossing_cause, may_cross, target_cause, target_in, first_of, pair_may_come, plan_may_come, is_planned, is_unplanned, is_next, is_apart}
 use Rattle.pair_run.specs.PairMaking.{said_to, reached_by, joined, newcomers, after_target}

@@ -23,10 +23,8 @@ use Rattle.campaign_world.specs.Script.{after_line}
 use Rattle.pair_run.specs.declared.owners.Owner.{Owner}
 use Rattle.pair_run.specs.declared.targets.Way.{Way}
 use Rattle.pair_run.specs.declared.targets.Way.TheVariants as way
-use Rattle.pair_run.specs.declared.targets.Target.{Target}
-use Rattle.pair_run.specs.declared.targets.Target.TheVariants.{Header, At, End, One, Across, Nobody}
+use Rattle.pair_run.specs.Targets.{Target, Header, At, End, One, Across, Nobody, to_owner, carried_form, carried_target, common_target, named_target, target_for, target_of}
 use Rattle.pair_run.specs.Pair.{PairState, side, other, is_same}
-use Rattle.pair_run.specs.Targets.{to_owner, carried_form, carried_target, common_target, named_target, target_for, target_of}
 use Rattle.pair_run.specs.PairCauses.{pair_cause_of, cause_of_pair_form, pair_form_cause, common_cause, crossing_cause, may_cross, goes_by, target_cause, target_in, pair_may_come, is_planned, is_next, is_apart}
 use Rattle.pair_run.specs.PairMaking.{said_to, reached_by, after_target}
 use Rattle.pair_run.specs.PairScript.{after_pair_line}

@@ -11,10 +11,8 @@ use Rattle.pair_run.specs.Sides.{is_quiet}
 use Rattle.pair_run.specs.declared.owners.Owner.{Owner}
 use Rattle.pair_run.specs.declared.targets.Way.{Way}
 use Rattle.pair_run.specs.declared.targets.Way.TheVariants as way
-use Rattle.pair_run.specs.declared.targets.Target.{Target}
-use Rattle.pair_run.specs.declared.targets.Target.TheVariants.{At, End, One, Across, Nobody}
+use Rattle.pair_run.specs.Targets.{Target, At, End, One, Across, Nobody, to_owner, carried_form, carried_target, common_target, named_target, target_for}
 use Rattle.pair_run.specs.Pair.{other, is_same}
-use Rattle.pair_run.specs.Targets.{to_owner, carried_form, carried_target, common_target, named_target, target_for}
 use Rattle.isolation_laws.specs.AtMoments.{names_it, is_one_of, names_one_of}
 use Rattle.isolation_laws.proofs.Naming.{may_name, IsSpelt}
 

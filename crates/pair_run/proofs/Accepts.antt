@@ -24,9 +24,7 @@ use Rattle.report_lines.specs.declared.faults.LineWhy.TheVariants as why
 use Rattle.pair_run.specs.declared.owners.Owner.{Owner}
 use Rattle.pair_run.specs.declared.targets.Way.{Way}
 use Rattle.pair_run.specs.declared.targets.Way.TheVariants as way
-use Rattle.pair_run.specs.declared.targets.Target.{Target}
-use Rattle.pair_run.specs.declared.targets.Target.TheVariants.{Header, At, End, One, Across, Nobody}
-use Rattle.pair_run.specs.Targets.{to_owner, carried_form, carried_target, common_target, named_target, target_for, target_of}
+use Rattle.pair_run.specs.Targets.{Target, Header, At, End, One, Across, Nobody, to_owner, carried_form, carried_target, common_target, named_target, target_for, target_of}
 use Rattle.pair_run.specs.HeldPair.{HeldPair, OfBoth, pair_of, IsCrossing, IsFineTarget}
 use Rattle.pair_run.specs.Pair.{PairState, other}
 use Rattle.pair_run.specs.PairCauses.{pair_cause_of, pair_form_cause, cause_of_pair_form, common_cause, both_cause, crossing_cause, may_cross, target_cause, target_in, first_of, pair_may_come, is_next, is_apart}

@@ -1,6 +1,7 @@
 pub mod Sides
 pub mod Pairs
 pub mod Accepts
+pub mod Told
 pub mod Parts
 pub mod HeardPair
 pub mod CountsUnread

@@ -18,8 +18,7 @@ use Rattle.campaign_world.specs.Causes.{takes_events, is_device, has_ended, form
 use Rattle.campaign_world.specs.Script.{after_line, line_result, read_line, read_lines, campaign_of}
 use Rattle.campaign_world.proofs.Lines.{ended, is_ended}
 use Rattle.pair_run.specs.declared.targets.Way.{Way}
-use Rattle.pair_run.specs.declared.targets.Target.{Target}
-use Rattle.pair_run.specs.declared.targets.Target.TheVariants.{Header, At, End, One, Across, Nobody}
+use Rattle.pair_run.specs.Targets.{Target, Header, At, End, One, Across, Nobody}
 use Rattle.pair_run.specs.Pair.{PairState, first_pair, side}
 use Rattle.pair_run.specs.PairCauses.{pair_cause_of, cause_of_pair_form, pair_form_cause, common_cause, crossing_cause, target_cause, target_in}
 use Rattle.pair_run.specs.PairMaking.{said_to, reached_by, after_target}

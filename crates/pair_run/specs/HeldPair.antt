@@ -4,6 +4,7 @@ use Rattle.wire_base.specs.Numbered.{numbered}
 use Rattle.script_lines.specs.declared.forms.Campaign.{Campaign}
 use Rattle.script_lines.specs.declared.forms.Campaign.TheVariants as campaign
 use Rattle.script_lines.specs.declared.forms.Form.TheVariants as form
+use Rattle.script_lines.specs.declared.forms.PairForm.{PairForm}
 use Rattle.device_core.specs.Device.{DeviceState}
 use Rattle.report_lines.specs.declared.faults.LineError.{LineError}
 use Rattle.report_lines.specs.declared.faults.LineError.TheVariants as error
@@ -11,11 +12,9 @@ use Rattle.campaign_world.specs.declared.numbered.SentPayload.{SentPayload}
 use Rattle.campaign_world.specs.Causes.{takes_events}
 use Rattle.campaign_world.specs.HeldWorld.{HeldWorld, WorldStands, EndsStand, IsFine, world_of}
 use Rattle.pair_run.specs.declared.owners.Owner.{Owner}
-use Rattle.pair_run.specs.declared.targets.Target.{Target}
-use Rattle.pair_run.specs.declared.targets.Target.TheVariants.{Header, At, End, One, Across, Nobody}
+use Rattle.pair_run.specs.Targets.{Target, Header, At, End, One, Across, Nobody}
 use Rattle.pair_run.specs.Pair.{PairState, other}
-use Rattle.pair_run.specs.PairCauses.{pair_cause_of}
-use Rattle.pair_run.specs.PairMaking.{after_target}
+use Rattle.pair_run.specs.PairCauses.{pair_cause_of, pair_form_cause, target_in}
 use Rattle.pair_run.specs.PairScript.{after_pair_line, pair_end}
 use Rattle.pair_run.specs.PairReport.{pair_report_of}
 
@@ -90,8 +89,8 @@ IsFineTarget held (Across x by number device word) =
     IsCrossing (held_side held x) (held_side held (other x)) number device word
 IsFineTarget held Nobody = ⊥
 
--- the line was read: what it is to the two campaigns, which nothing refuses
-pub record IsAccepted (held : HeldPair) (line : List ℕ) (target : Target) : Type 0 where
-  pub unrefused : OfBoth held (λ pair. pair_cause_of pair line ≡ None)
-  pub makes : OfBoth held (λ pair. after_pair_line pair line ≡ after_target pair target)
+-- a line that was read is accepted: what it says to the two campaigns, which nothing refuses
+pub record IsAccepted (held : HeldPair) (pair_form : PairForm) (target : Target) : Type 0 where
+  pub unrefused : OfBoth held (λ pair. pair_form_cause pair pair_form ≡ None)
+  pub says : OfBoth held (λ pair. target ≡ target_in pair pair_form)
   pub fine : IsFineTarget held target

@@ -1,5 +1,6 @@
 pub mod Pair
 pub mod Targets
+pub mod HeldTargets
 pub mod PairCauses
 pub mod PairMaking
 pub mod PairScript

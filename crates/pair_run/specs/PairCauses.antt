@@ -21,10 +21,8 @@ use Rattle.campaign_world.specs.World.{WorldState}
 use Rattle.campaign_world.specs.Causes.{is_event_or_end, is_in_order, takes_events, is_device, names_device, fits_flash, is_to_group, form_cause}
 use Rattle.pair_run.specs.declared.targets.Way.{Way}
 use Rattle.pair_run.specs.declared.targets.Way.TheVariants as way
-use Rattle.pair_run.specs.declared.targets.Target.{Target}
-use Rattle.pair_run.specs.declared.targets.Target.TheVariants.{Header, At, End, One, Across, Nobody}
+use Rattle.pair_run.specs.Targets.{Target, Header, At, End, One, Across, Nobody, target_of}
 use Rattle.pair_run.specs.Pair.{PairState, side, other}
-use Rattle.pair_run.specs.Targets.{target_of}
 
 -- ---- order
 

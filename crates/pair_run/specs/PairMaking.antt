@@ -12,8 +12,7 @@ use Rattle.campaign_world.specs.Said.{Said, Own, Elsewhere, Reached}
 use Rattle.campaign_world.specs.Making.{after_said}
 use Rattle.campaign_world.specs.Script.{one_line_more}
 use Rattle.pair_run.specs.declared.owners.Owner.{Owner}
-use Rattle.pair_run.specs.declared.targets.Target.{Target}
-use Rattle.pair_run.specs.declared.targets.Target.TheVariants.{Header, At, End, One, Across, Nobody}
+use Rattle.pair_run.specs.Targets.{Target, Header, At, End, One, Across, Nobody}
 use Rattle.pair_run.specs.Pair.{PairState, side, is_same}
 
 -- a payload of the other campaign reaches a device. The other's group has another address, so that the device hears the frame

@@ -9,9 +9,22 @@ use Rattle.script_lines.specs.declared.forms.PairForm.{PairForm}
 use Rattle.pair_run.specs.declared.owners.Owner.{Owner}
 use Rattle.pair_run.specs.declared.targets.Way.{Way}
 use Rattle.pair_run.specs.declared.targets.Way.TheVariants as way
-use Rattle.pair_run.specs.declared.targets.Target.{Target}
-use Rattle.pair_run.specs.declared.targets.Target.TheVariants.{Header, At, End, One, Across, Nobody}
 use Rattle.pair_run.specs.Pair.{is_same}
+
+-- what a line says to which of two campaigns
+pub data Target : Type 0 where
+  -- its first line, to both
+  Header : Target
+  -- the time now, in ms, to both
+  At : (time : ℕ) → Target
+  -- the end, to both
+  End : Target
+  -- a line of one campaign; a device has the number that it has there
+  One : Campaign → Form → Target
+  -- a payload of one campaign's server, by its number, reaches a device of the other
+  Across : Campaign → Way → (number device word : ℕ) → Target
+  -- there is no such device
+  Nobody : Target
 
 -- to the campaign whose the device is, under the number that the device has there
 abbrev pub to_owner : (Owner → Target) → Option Owner → Target

@@ -87,8 +87,6 @@ fn carry(from: &World, to: &mut World, number: u64, device: u64, word: u64) -> R
 {
     // there are at most 64, so that the number of a device fits a byte
     let _few = to.count();
-    let Some(sent) = from.sent(number) else {
-        unreachable!()
-    };
+    let sent = from.sent(number).unwrap();
     to.reach(device as u8, &sent.down, word as u32)
 }

@@ -1,7 +1,10 @@
 //! Whose a line is: what it says to which of the two campaigns.
 
-ghost use Rattle.std.specs.Prelude.{◌≡◌, ◌<◌, ◌^◌, length};
-ghost use Rattle.pair_run.specs.Targets.{common_target, named_target, carried_form, carried_target, target_of};
+ghost use Rattle.std.specs.Prelude.{◌≡◌, ◌≢◌, ◌<◌, ◌^◌, true, length};
+ghost use Rattle.wire_base.specs.Numbered.{numbered};
+ghost use Rattle.pair_run.specs.Targets.{common_target, named_target, target_of};
+ghost use Rattle.pair_run.specs.Sides.{is_quiet};
+ghost use Rattle.pair_run.specs.HeldTargets.{told, number_of, owners_word, carried_word};
 
 use crate::owners::{Owner, is_same, owner_of};
 use script_lines::{Campaign, Form, PairForm};
@@ -15,21 +18,14 @@ pub enum Way {
     Air,
 }
 
-/// What a line says to which of two campaigns.
-#[derive(Drop)]
-pub enum Target<'a> {
-    /// Its first line, to both.
-    Header,
-    /// The time now, in ms, to both.
-    At {
-        time: u64,
-    },
-    /// The end, to both.
-    End,
-    /// A line of one campaign; a device has the number that it has there.
+/// Whose a line is.
+#[derive(Clone, Copy)]
+pub enum Whose {
+    /// Of both: the first line, a time or the end.
+    Both,
+    /// Of one campaign. A device that it names has the number that it has there.
     One {
         campaign: Campaign,
-        form: Form<'a>,
     },
     /// A payload of one campaign's server, by its number, reaches a device of the other.
     Across {
@@ -39,181 +35,118 @@ pub enum Target<'a> {
         device: u64,
         word: u64,
     },
-    /// There is no such device.
+    /// Of nobody: there is no such device.
     Nobody,
 }
 
-/// What a line says to which campaign, after so many devices of the one and of the other.
+/// Whose a line is, after so many devices of the one and of the other. A device that it names has then the number that it has
+/// in its campaign: the form is changed where it lies, since it is larger than all else that a line needs.
 #[tactic(auto, unfolding(crate::specs::Targets::target_of))]
-pub fn target_of<'a>(
-    owners: &[Owner],
-    count_a: usize,
-    count_b: usize,
-    pair_form: PairForm<'a>,
-) -> Target<'a>
+pub fn whose_of(owners: &[Owner], count_a: usize, count_b: usize, pair_form: &mut PairForm) -> Whose
     requires a { count_a < 2 ^ 63 }
     requires b { count_b < 2 ^ 63 }
     requires owners { length owners.now < 2 ^ 63 }
-    ensures { result ≡ target_of owners.now count_a count_b pair_form.entry }
+    ensures told { told result pair_form.new.form
+        ≡ target_of owners.now count_a count_b pair_form.old }
+    ensures quiet { result ≡ Whose.Both → is_quiet pair_form.new.form ≡ true }
 {
-    let PairForm { campaign, form } = pair_form;
+    let campaign = pair_form.campaign;
+    let form = &mut pair_form.form;
     match campaign {
-        None => common_target(owners, form),
-        Some(Campaign::A) => named_target(owners, count_a, Campaign::A, form),
-        Some(Campaign::B) => named_target(owners, count_b, Campaign::B, form),
+        None => whose_in_common(owners, form),
+        Some(Campaign::A) => whose_named(owners, count_a, Campaign::A, form),
+        Some(Campaign::B) => whose_named(owners, count_b, Campaign::B, form),
     }
 }
 
 /// A line that names no campaign.
-fn common_target<'a>(owners: &[Owner], form: Form<'a>) -> Target<'a>
+fn whose_in_common(owners: &[Owner], form: &mut Form) -> Whose
     requires { length owners.now < 2 ^ 63 }
-    ensures { result ≡ common_target owners.now form.entry }
+    ensures told { told result form.new ≡ common_target owners.now form.old }
+    ensures quiet { result ≡ Whose.Both → is_quiet form.new ≡ true }
 {
     match form {
-        Form::Header => Target::Header,
-        Form::At { time } => Target::At { time },
-        Form::End => Target::End,
-        Form::Wake { device } => match owner_of(owners, device) {
-            Some(owner) => Target::One {
+        Form::Header => Whose::Both,
+        Form::At { .. } => Whose::Both,
+        Form::End => Whose::Both,
+        Form::Wake { device } => owners_line(owners, device),
+        Form::Migrate { device } => owners_line(owners, device),
+        Form::Power { device } => owners_line(owners, device),
+        Form::Ask { device } => owners_line(owners, device),
+        _ => Whose::Nobody,
+    }
+}
+
+/// A line of the campaign whose a device is, which gets the number that it has there.
+fn owners_line(owners: &[Owner], device: &mut u64) -> Whose
+    requires { length owners.now < 2 ^ 63 }
+    ensures whose { result ≡ owners_word (numbered owners.now device.old) }
+    ensures number { device.new ≡ number_of (numbered owners.now device.old) device.old }
+{
+    match owner_of(owners, *device) {
+        Some(owner) => {
+            *device = owner.number;
+            Whose::One {
                 campaign: owner.campaign,
-                form: Form::Wake {
-                    device: owner.number,
-                },
-            },
-            None => Target::Nobody,
-        },
-        Form::Migrate { device } => match owner_of(owners, device) {
-            Some(owner) => Target::One {
-                campaign: owner.campaign,
-                form: Form::Migrate {
-                    device: owner.number,
-                },
-            },
-            None => Target::Nobody,
-        },
-        Form::Power { device } => match owner_of(owners, device) {
-            Some(owner) => Target::One {
-                campaign: owner.campaign,
-                form: Form::Power {
-                    device: owner.number,
-                },
-            },
-            None => Target::Nobody,
-        },
-        Form::Ask { device } => match owner_of(owners, device) {
-            Some(owner) => Target::One {
-                campaign: owner.campaign,
-                form: Form::Ask {
-                    device: owner.number,
-                },
-            },
-            None => Target::Nobody,
-        },
-        _ => Target::Nobody,
+            }
+        }
+        None => Whose::Nobody,
     }
 }
 
 /// A line that names a campaign which has so many devices.
-fn named_target<'a>(
-    owners: &[Owner],
-    count: usize,
-    campaign: Campaign,
-    form: Form<'a>,
-) -> Target<'a>
+fn whose_named(owners: &[Owner], count: usize, campaign: Campaign, form: &mut Form) -> Whose
     requires count { count < 2 ^ 63 }
     requires owners { length owners.now < 2 ^ 63 }
-    ensures { result ≡ named_target owners.now count campaign form.entry }
+    ensures told { told result form.new ≡ named_target owners.now count campaign form.old }
+    ensures one { result ≢ Whose.Both }
 {
     match form {
         Form::Down {
             number,
             device,
             word,
-        } => match owner_of(owners, device) {
-            Some(owner) => carried_target(campaign, Way::Downlink, number, word, owner),
-            None => Target::Nobody,
-        },
+        } => carried(owners, campaign, Way::Downlink, *number, device, *word),
         Form::Air {
             number,
             device,
             word,
-        } => match owner_of(owners, device) {
-            Some(owner) => carried_target(campaign, Way::Air, number, word, owner),
-            None => Target::Nobody,
-        },
-        Form::Device {
-            class,
-            hw,
-            rows,
-            offset,
-            key,
-            descriptor,
-            v1,
-            k11,
-            flash,
-            ..
-        } => Target::One {
-            campaign,
-            form: Form::Device {
-                id: count as u64 + 1,
-                class,
-                hw,
-                rows,
-                offset,
-                key,
-                descriptor,
-                v1,
-                k11,
-                flash,
-            },
-        },
-        other => Target::One {
-            campaign,
-            form: other,
-        },
+        } => carried(owners, campaign, Way::Air, *number, device, *word),
+        Form::Device { id, .. } => {
+            *id = count as u64 + 1;
+            Whose::One { campaign }
+        }
+        _ => Whose::One { campaign },
     }
 }
 
-/// A payload of a campaign reaches a device, its own or the other's.
-fn carried_target<'a>(
+/// A payload of a campaign reaches a device, its own or the other's, which gets the number that it has there.
+fn carried(
+    owners: &[Owner],
     campaign: Campaign,
     way: Way,
     number: u64,
+    device: &mut u64,
     word: u64,
-    owner: Owner,
-) -> Target<'a>
-    ensures { result ≡ carried_target campaign way number word owner }
+) -> Whose
+    requires { length owners.now < 2 ^ 63 }
+    ensures whose { result
+        ≡ carried_word campaign way number word (numbered owners.now device.old) }
+    ensures number { device.new ≡ number_of (numbered owners.now device.old) device.old }
 {
+    let Some(owner) = owner_of(owners, *device) else {
+        return Whose::Nobody;
+    };
+    *device = owner.number;
     if is_same(owner.campaign, campaign) {
-        Target::One {
-            campaign,
-            form: carried_form(way, number, owner.number, word),
-        }
+        Whose::One { campaign }
     } else {
-        Target::Across {
+        Whose::Across {
             campaign,
             way,
             number,
             device: owner.number,
             word,
         }
-    }
-}
-
-/// A payload of its own campaign reaches a device.
-fn carried_form<'a>(way: Way, number: u64, device: u64, word: u64) -> Form<'a>
-    ensures { result ≡ carried_form way number device word }
-{
-    match way {
-        Way::Downlink => Form::Down {
-            number,
-            device,
-            word,
-        },
-        Way::Air => Form::Air {
-            number,
-            device,
-            word,
-        },
     }
 }
