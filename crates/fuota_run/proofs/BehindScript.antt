@@ -11,8 +11,8 @@ use Rattle.campaign_world.specs.HeldWorld.{HeldWorld, WorldStands, IsReport, IsS
 use Rattle.campaign_world.specs.HeardWorld.{WorldIsIf}
 use Rattle.campaign_world.specs.Recovery.{recovery}
 use Rattle.fuota_run.specs.declared.status.Status.TheVariants as status
-use Rattle.fuota_run.specs.declared.words.ScriptForm.{ScriptForm}
-use Rattle.fuota_run.specs.declared.words.ScriptForm.TheVariants.{Campaign, Recover}
+use Rattle.fuota_run.specs.declared.forms.ScriptForm.{ScriptForm}
+use Rattle.fuota_run.specs.declared.forms.ScriptForm.TheVariants.{Campaign, Recover}
 use Rattle.fuota_run.specs.Answer.{Answer, answer, recovered, world_answer, summary_answer}
 use Rattle.fuota_run.specs.Ending.{IsPlayed}
 use Rattle.fuota_run.specs.HeldAnswer.{IsRecovery}

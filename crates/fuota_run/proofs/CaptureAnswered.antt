@@ -10,8 +10,8 @@ use Rattle.payload_replay.specs.CaptureReplay.{IsReplayOf, entries_text}
 use Rattle.payload_replay.proofs.CaptureLaw.{ends_as_replay}
 use Rattle.payload_replay.proofs.CaptureLines.{capture_one}
 use Rattle.payload_replay.proofs.ReplayLines.{replay_one}
-use Rattle.fuota_run.specs.declared.words.FileForm.{FileForm}
-use Rattle.fuota_run.specs.declared.words.FileForm.TheVariants.{Replay, Capture}
+use Rattle.fuota_run.specs.declared.forms.FileForm.{FileForm}
+use Rattle.fuota_run.specs.declared.forms.FileForm.TheVariants.{Replay, Capture}
 use Rattle.fuota_run.specs.declared.status.Status.TheVariants as status
 use Rattle.fuota_run.specs.Outside.{Held}
 use Rattle.fuota_run.specs.Words.{Invocation}

@@ -18,8 +18,8 @@ use Rattle.campaign_generator.proofs.Decimals.{decimal_is_read}
 use Rattle.fuota_run.specs.Words.{Invocation, plays, payloads, generates, plays_two, asked, asked_by, device_by, device_of_word, direction_of_word, form, fuota, parsed, port_by, port_of_word, seed_by, seed_of_word, where_none}
 use Rattle.script_lines.specs.Numbers.{decimal_of, ◌>>=◌}
 use Rattle.wire_base.specs.declared.refusal.Direction.{Direction}
-use Rattle.fuota_run.specs.declared.words.FileForm.TheVariants.{Replay, Decode, Capture}
-use Rattle.fuota_run.specs.declared.words.ScriptForm.TheVariants.{Campaign, Recover}
+use Rattle.fuota_run.specs.declared.forms.FileForm.TheVariants.{Replay, Decode, Capture}
+use Rattle.fuota_run.specs.declared.forms.ScriptForm.TheVariants.{Campaign, Recover}
 use Rattle.fuota_run.specs.Forms.{IsName, WordsAreForms, OtherCountsAreNone}
 
 -- ---- a name among the words of a form

@@ -14,8 +14,8 @@ use Rattle.campaign_laws.proofs.Seeds.{generated}
 use Rattle.fuota_run.specs.declared.status.Status.TheVariants as status
 use Rattle.fuota_run.specs.Outside.{Held}
 use Rattle.fuota_run.specs.Words.{Invocation}
-use Rattle.fuota_run.specs.declared.words.ScriptForm.{ScriptForm}
-use Rattle.fuota_run.specs.declared.words.ScriptForm.TheVariants.{Campaign, Recover}
+use Rattle.fuota_run.specs.declared.forms.ScriptForm.{ScriptForm}
+use Rattle.fuota_run.specs.declared.forms.ScriptForm.TheVariants.{Campaign, Recover}
 use Rattle.fuota_run.specs.Answer.{Answer, answer, not_complete, recovered, world_answer, summary_answer, played, script_answer, campaign_answer, generate_answer, IsAnswerTo, IsAnswer}
 use Rattle.fuota_run.specs.Headline.{AreHandedIn, IsRecoveryAnswered, IsSeedAnswered}
 

@@ -2,8 +2,8 @@
 use Rattle.std.proofs.Common.{◌≡◌, ℕ, Bool, true, false, nat_lt, List, length, Option, Some, None, Result, refl, sym, ap, ◌∙◌}
 use Rattle.report_lines.specs.declared.faults.LineFault.{LineFault}
 use Rattle.fuota_run.specs.Limits.{script_limit}
-use Rattle.fuota_run.specs.declared.words.FileForm.{FileForm}
-use Rattle.fuota_run.specs.declared.words.FileForm.TheVariants.{Replay, Decode, Capture}
+use Rattle.fuota_run.specs.declared.forms.FileForm.{FileForm}
+use Rattle.fuota_run.specs.declared.forms.FileForm.TheVariants.{Replay, Decode, Capture}
 use Rattle.fuota_run.specs.Outside.{Held}
 use Rattle.report_lines.specs.Lines.{FileText, HasOneText, HasAText}
 use Rattle.fuota_run.specs.Words.{Invocation, plays, payloads, generates, plays_two, asked}

@@ -8,7 +8,7 @@ use Rattle.campaign_world.specs.Script.{end_result}
 use Rattle.campaign_world.specs.HeldWorld.{IsReport, IsSummary, IsEnded}
 use Rattle.campaign_world.specs.Recovery.{recovery}
 use Rattle.fuota_run.specs.declared.status.Status.TheVariants as status
-use Rattle.fuota_run.specs.declared.words.ScriptForm.TheVariants.{Campaign, Recover}
+use Rattle.fuota_run.specs.declared.forms.ScriptForm.TheVariants.{Campaign, Recover}
 use Rattle.fuota_run.specs.Answer.{Answer, answer, recovered, world_answer, summary_answer}
 use Rattle.fuota_run.specs.HeldAnswer.{IsRecovery}
 use Rattle.fuota_run.specs.Ending.{IsPlayed}

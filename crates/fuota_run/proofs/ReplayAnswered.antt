@@ -6,7 +6,7 @@ use Rattle.report_lines.specs.declared.faults.LineFault.{LineFault}
 use Rattle.report_lines.specs.Lines.{text_at_end}
 use Rattle.payload_replay.specs.Replay.{Reaches, Replays, replay_text}
 use Rattle.payload_replay.proofs.ReplayLines.{reaches_once}
-use Rattle.fuota_run.specs.declared.words.FileForm.TheVariants.{Replay}
+use Rattle.fuota_run.specs.declared.forms.FileForm.TheVariants.{Replay}
 use Rattle.fuota_run.specs.declared.status.Status.TheVariants as status
 use Rattle.fuota_run.specs.Outside.{Held}
 use Rattle.fuota_run.specs.Words.{Invocation, payloads, asked}

@@ -6,8 +6,8 @@ use Rattle.script_lines.specs.Limits.{max_devices}
 use Rattle.wire_base.specs.declared.refusal.Direction.{Direction}
 use Rattle.wire_base.specs.declared.refusal.Direction.TheVariants.{Down, Up}
 use Rattle.clap.specs.Words.{Text}
-use Rattle.fuota_run.specs.declared.words.FileForm.TheVariants.{Replay, Decode, Capture}
-use Rattle.fuota_run.specs.declared.words.ScriptForm.TheVariants.{Campaign, Recover}
+use Rattle.fuota_run.specs.declared.forms.FileForm.TheVariants.{Replay, Decode, Capture}
+use Rattle.fuota_run.specs.declared.forms.ScriptForm.TheVariants.{Campaign, Recover}
 use Rattle.fuota_run.specs.Outside.{Held}
 use Rattle.fuota_run.specs.Ending.{HoldsForm}
 use Rattle.fuota_run.specs.Words.{plays, payloads, generates, plays_two, asked, names_asked, port_of_word, device_of_word, seed_of_word, direction_of_word}

@@ -27,10 +27,10 @@ use Rattle.payload_replay.specs.Replay.{Reaches, closing_text, replay_text}
 use Rattle.payload_replay.specs.Capture.{Caught, CatchesAll, capture_text}
 use Rattle.payload_replay.specs.CaptureReplay.{IsReplayOf, entries_text}
 use Rattle.capture_read.specs.declared.answers.Entry.{Entry}
-use Rattle.fuota_run.specs.declared.words.FileForm.{FileForm}
-use Rattle.fuota_run.specs.declared.words.FileForm.TheVariants.{Replay, Capture}
-use Rattle.fuota_run.specs.declared.words.ScriptForm.{ScriptForm}
-use Rattle.fuota_run.specs.declared.words.ScriptForm.TheVariants.{Campaign, Recover}
+use Rattle.fuota_run.specs.declared.forms.FileForm.{FileForm}
+use Rattle.fuota_run.specs.declared.forms.FileForm.TheVariants.{Replay, Capture}
+use Rattle.fuota_run.specs.declared.forms.ScriptForm.{ScriptForm}
+use Rattle.fuota_run.specs.declared.forms.ScriptForm.TheVariants.{Campaign, Recover}
 use Rattle.campaign_world.specs.declared.recovery.NoFile.{NoFile}
 use Rattle.campaign_world.specs.Recovery.{recovery}
 use Rattle.fuota_run.specs.Words.{plays, payloads, generates, asked}

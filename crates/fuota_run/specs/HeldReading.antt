@@ -1,5 +1,5 @@
 -- What a call keeps that reads a file to its end, or to one byte more than a limit.
-use Rattle.std.specs.Prelude.{◌≡◌, ◌≢◌, ℕ, ◌+◌, List, Option, Result, Err, IfOk, OnOk, IsErrOf}
+use Rattle.std.specs.Prelude.{◌≡◌, ◌≢◌, ℕ, ◌+◌, ◌≤◌, Bool, true, List, Option, Result, Err, IfOk, OnOk, OnErr, IsErrOf}
 use Rattle.std.specs.Io.KnownBytes.{IsAtEnd}
 use Rattle.fuota_run.specs.declared.source.SourceError.{SourceError}
 use Rattle.fuota_run.specs.declared.source.SourceError.TheVariants.{Failed, TooLong}
@@ -21,3 +21,33 @@ pub record ReadsSource {T : Type 0} (finds : T → Type 0) (held held_now : Opti
   pub quiet : result ≢ Err Failed → faults_now ≡ faults
   -- the files are as they were
   pub same : held_now ≡ held
+
+-- One piece more was read, of a file that is chosen, after which so many bytes were taken. What is seen of the files stands
+-- before and after.
+pub record ReadsPiece (before after most : ℕ) (is_chosen : Bool) (old_held new_held : Option Held) (faults faults_now : ℕ)
+    (left : Option (List ℕ)) (result : Result ℕ SourceError) : Type 0 where
+  pub taken : IfOk result (λ n. after ≡ before + n)
+  pub within : OnOk result (after ≤ most)
+  -- nothing more comes at the file's end alone
+  pub end : IfOk result (λ n. n ≡ 0 → IsAtEnd left)
+  -- a fault is answered exactly where one was counted
+  pub failed : IsErrOf result Failed → HasRisen faults faults_now
+  pub quiet : result ≢ Err Failed → faults_now ≡ faults
+  pub not_long : (taken : ℕ) → result ≢ Err (TooLong taken)
+  -- the files are as they were, and the file is chosen still
+  pub chosen : is_chosen ≡ true
+  pub held : new_held ≡ old_held
+
+-- One piece more was heard, of at most so many bytes, of which this holds.
+pub record HearsPiece {E : Type 0} (hears : ℕ → Type 0) (most : ℕ) (is_chosen : Bool) (old_held new_held : Option Held) (faults faults_now : ℕ)
+    (left : Option (List ℕ)) (result : Result ℕ E) : Type 0 where
+  pub heard : IfOk result hears
+  pub within : IfOk result (λ n. n ≤ most)
+  -- nothing more comes at the file's end alone
+  pub end : IfOk result (λ n. n ≡ 0 → IsAtEnd left)
+  -- a fault is answered exactly where one was counted
+  pub failed : OnErr result (HasRisen faults faults_now)
+  pub quiet : OnOk result (faults_now ≡ faults)
+  -- the files are as they were, and the file is chosen still
+  pub chosen : is_chosen ≡ true
+  pub held : new_held ≡ old_held

@@ -1,6 +1,7 @@
 -- Files in memory: what a list of named files holds, and which calls of a schedule fail.
 use Rattle.std.specs.Prelude.{◌≡◌, ◌<◌, ℕ, ◌+◌, ◌-◌, ◌^◌, min, Bool, List, [], ◌∷◌, Option, None, Some, if◌then◌else◌, map, get_or, Result, Ok, Err}
 use Rattle.std.specs.Str.{bytes_eq}
+use Rattle.fuota_run.specs.Outside.{HasCause}
 
 -- a name, and the bytes that it holds
 abbrev pub Named : Type 0
@@ -44,6 +45,19 @@ next_call calls = min (calls + 1) (2 ^ 64 - 1)
 abbrev pub faults_after : {T E : Type 0} → Result T E → ℕ → ℕ
 faults_after (Ok done) faults = faults
 faults_after (Err failed) faults = next_call faults
+
+-- what a call counts that goes by a schedule: itself, and a fault where it failed; which calls fail stays as it was
+pub record IsCounted {T E : Type 0} (old_faults new_faults old_calls new_calls : ℕ) (old_fails new_fails : List ℕ) (result : Result T E) : Type 0 where
+  pub cause : HasCause old_faults new_faults result
+  pub faults : new_faults ≡ faults_after result old_faults
+  pub counted : new_calls ≡ next_call old_calls
+  pub schedule : new_fails ≡ old_fails
+
+abbrev pub FilesCount : {T E : Type 0} → (old new : SeenFiles) → Result T E → Type 0
+FilesCount old new result = IsCounted old.faults new.faults old.calls new.calls old.fails new.fails result
+
+abbrev pub SinkCounts : {T E : Type 0} → (old new : SeenSink) → Result T E → Type 0
+SinkCounts old new result = IsCounted old.faults new.faults old.calls new.calls old.fails new.fails result
 
 -- a sink has no room for any byte of a piece that is not empty
 abbrev pub IsFull : (room held piece : ℕ) → Type 0

@@ -6,12 +6,12 @@ use Rattle.wire_base.specs.declared.refusal.Direction.TheVariants.{Down, Up}
 use Rattle.clap.specs.declared.builder.command.Command.{Command}
 use Rattle.clap.specs.declared.builder.command.Command.TheViews.{out-Command}
 use Rattle.clap.specs.Words.{App, Kinds, Shape, Row, Rule, Text, app_of, fault_of, first_of, new_app, new_rule, subcommand_of, with_rule, with_subcommand}
-use Rattle.fuota_run.specs.declared.words.Invocation.{Invocation as Read}
-use Rattle.fuota_run.specs.declared.words.Invocation.TheVariants as read
-use Rattle.fuota_run.specs.declared.words.FileForm.{FileForm}
-use Rattle.fuota_run.specs.declared.words.FileForm.TheVariants.{Replay, Decode, Capture}
-use Rattle.fuota_run.specs.declared.words.ScriptForm.{ScriptForm}
-use Rattle.fuota_run.specs.declared.words.ScriptForm.TheVariants.{Campaign, Recover}
+use Rattle.fuota_run.specs.declared.forms.Invocation.{Invocation as Read}
+use Rattle.fuota_run.specs.declared.forms.Invocation.TheVariants as read
+use Rattle.fuota_run.specs.declared.forms.FileForm.{FileForm}
+use Rattle.fuota_run.specs.declared.forms.FileForm.TheVariants.{Replay, Decode, Capture}
+use Rattle.fuota_run.specs.declared.forms.ScriptForm.{ScriptForm}
+use Rattle.fuota_run.specs.declared.forms.ScriptForm.TheVariants.{Campaign, Recover}
 use Rattle.script_lines.specs.Limits.{max_devices}
 use Rattle.script_lines.specs.Numbers.{decimal_of, ◌>>=◌}
 

@@ -16,8 +16,8 @@ ghost use Rattle.campaign_world.specs.HeardWorld.{WorldIsIf};
 ghost use Rattle.fuota_run.specs.HeldAnswer.{seen_answer, IsRecovery};
 
 use crate::answers::Answer;
+use crate::forms::ScriptForm;
 use crate::status::Status;
-use crate::words::ScriptForm;
 use campaign_world::{NoFile, World};
 use report_lines::LineError;
 use script_lines::{Lines, hear_last, hear_piece};

@@ -4,7 +4,7 @@ ghost use Rattle.std.specs.Prelude.{◌≡◌, ◌≢◌, ℕ, ◌+◌, ◌<◌,
 ghost use Rattle.std.specs.Io.KnownBytes.{IsAtEnd};
 ghost use Rattle.script_lines.specs.Hearing.{HearsLines};
 ghost use Rattle.fuota_run.specs.Outside.{HoldsName, HasRisen, IsReadSoFar};
-ghost use Rattle.fuota_run.specs.HeldReading.{ReadsSource};
+ghost use Rattle.fuota_run.specs.HeldReading.{HearsPiece, ReadsSource};
 ghost use Rattle.fuota_run.specs.Source.{IsSource};
 ghost use Rattle.fuota_run.specs.Hearing.{HearsOn};
 
@@ -58,14 +58,10 @@ fn hear_some<F: Files, W: HearsLine>(
 ) -> Result<usize, Failed>
     requires room { 0 < length piece.old }
     requires chosen { F.chosen files.old ≡ true }
-    ensures heard { IfOk result (λ n. HearsOn W.hears (F.left files.old) (F.left files.new)
-        lines.old lines.new hearer.old hearer.new n) }
-    ensures within { IfOk result (λ n. n ≤ length piece.old) }
-    ensures end { IfOk result (λ n. n ≡ 0 → IsAtEnd (F.left files.new)) }
-    ensures failed { OnErr result (HasRisen (F.faults files.old) (F.faults files.new)) }
-    ensures quiet { OnOk result (F.faults files.new ≡ F.faults files.old) }
-    ensures chosen { F.chosen files.new ≡ true }
-    ensures held { F.held files.new ≡ F.held files.old }
+    ensures { HearsPiece (λ n. HearsOn W.hears (F.left files.old) (F.left files.new)
+        lines.old lines.new hearer.old hearer.new n) (length piece.old) (F.chosen files.new)
+        (F.held files.old) (F.held files.new) (F.faults files.old) (F.faults files.new)
+        (F.left files.new) result }
 {
     match files.read(piece) {
         Err(failed) => Err(failed),

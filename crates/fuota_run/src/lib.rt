@@ -11,17 +11,20 @@
 mod answers;
 mod campaign_answers;
 mod files;
+mod forms;
 mod hearing;
 mod images;
 mod laws;
 mod memory;
 mod output;
+mod payload_answers;
 mod running;
 mod sink;
 mod source;
 mod status;
 mod sure;
 mod system;
+mod values;
 mod words;
 
 pub use campaign_world::World;

@@ -3,8 +3,8 @@
 ghost use Rattle.std.specs.Prelude.{◌≡◌, ◌≢◌, ℕ, ◌+◌, ◌-◌, ◌^◌, ◌≤◌, ◌<◌, ◌↔◌, ◌⊎◌, min, Bool, true, false, List, [], ◌++◌, length, take, drop, map, Option, Some, None, is_some, is_ok, IsTrue, IsErr, IfOk, OnOk, OnErr, IfSome, IfNone, Contains, slice_get, string_bytes, vec_len, vec_capacity};
 ghost use Rattle.std.specs.Bool.{OnTrue, OnFalse};
 ghost use Rattle.std.specs.Io.KnownBytes.{Keeps, ReadConsumes, WriteAppends};
-ghost use Rattle.fuota_run.specs.Outside.{HoldsName, IsWhole, HasCause, HasRisen, AtMost, TakesSome};
-ghost use Rattle.fuota_run.specs.Memory.{held_by, bytes_at, next_call, faults_after, IsFull};
+ghost use Rattle.fuota_run.specs.Outside.{HoldsName, IsWhole, HasRisen, AtMost, TakesSome};
+ghost use Rattle.fuota_run.specs.Memory.{held_by, bytes_at, next_call, FilesCount, SinkCounts, IsFull};
 
 use crate::files::{Failed, Files};
 use crate::sink::Sink;
@@ -168,11 +168,8 @@ impl Files for MemFiles {
             (IsWhole (Some (held_by self.old.files)) name.now (Some self.new.left)) }
         ensures chosen { self.new.chosen ≡ is_ok result }
         ensures held { self.new.files ≡ self.old.files }
-        ensures cause { HasCause self.old.faults self.new.faults result }
-        ensures faults { self.new.faults ≡ faults_after result self.old.faults }
+        ensures call { FilesCount self.old self.new result }
         ensures listed { IsErr result ↔ Contains self.old.fails (next_call self.old.calls) }
-        ensures counted { self.new.calls ≡ next_call self.old.calls }
-        ensures schedule { self.new.fails ≡ self.old.fails }
     {
         self.place = None;
         if self.schedule.fails_now() {
@@ -191,11 +188,8 @@ impl Files for MemFiles {
         ensures bytes { ReadConsumes (Some self.old.left) (Some self.new.left) result buf.new }
         ensures chosen { self.new.chosen ≡ true }
         ensures held { self.new.files ≡ self.old.files }
-        ensures cause { HasCause self.old.faults self.new.faults result }
-        ensures faults { self.new.faults ≡ faults_after result self.old.faults }
+        ensures call { FilesCount self.old self.new result }
         ensures listed { IsErr result ↔ Contains self.old.fails (next_call self.old.calls) }
-        ensures counted { self.new.calls ≡ next_call self.old.calls }
-        ensures schedule { self.new.fails ≡ self.old.fails }
     {
         if self.schedule.fails_now() {
             return Err(Failed);
@@ -272,14 +266,12 @@ impl Sink for MemSink {
         ensures takes { TakesSome result (length piece.now) }
         ensures bytes { WriteAppends (Some self.old.bytes) (Some self.new.bytes) result piece.now }
         ensures unfinished { self.new.finished ≡ false }
-        ensures cause { HasCause self.old.faults self.new.faults result }
-        ensures faults { self.new.faults ≡ faults_after result self.old.faults }
+        ensures call { SinkCounts self.old self.new result }
         ensures listed { IsErr result ↔ Contains self.old.fails (next_call self.old.calls)
             ⊎ IsFull self.old.room (length self.old.bytes) (length piece.now) }
         ensures taken { IfOk result
             (λ n. n ≡ min (self.old.room - length self.old.bytes) (length piece.now)) }
-        ensures counted { self.new.calls ≡ next_call self.old.calls }
-        ensures schedule { (self.new.fails ≡ self.old.fails) × (self.new.room ≡ self.old.room) }
+        ensures room { self.new.room ≡ self.old.room }
     {
         self.finished = false;
         if self.schedule.fails_now() {
@@ -291,20 +283,16 @@ impl Sink for MemSink {
             self.schedule.raise();
             return Err(Failed);
         }
-        if self.bytes.extend_from_slice(&piece[..taken]).is_err() {
-            unreachable!();
-        }
+        self.bytes.extend_from_slice(&piece[..taken]).unwrap();
         Ok(taken)
     }
 
     fn finish(&mut self) -> Result<(), Failed>
         ensures bytes { Keeps (Some self.old.bytes) (Some self.new.bytes) }
         ensures finished { self.new.finished ≡ is_ok result }
-        ensures cause { HasCause self.old.faults self.new.faults result }
-        ensures faults { self.new.faults ≡ faults_after result self.old.faults }
+        ensures call { SinkCounts self.old self.new result }
         ensures listed { IsErr result ↔ Contains self.old.fails (next_call self.old.calls) }
-        ensures counted { self.new.calls ≡ next_call self.old.calls }
-        ensures schedule { (self.new.fails ≡ self.old.fails) × (self.new.room ≡ self.old.room) }
+        ensures room { self.new.room ≡ self.old.room }
     {
         self.finished = false;
         if self.schedule.fails_now() {

@@ -4,11 +4,7 @@ ghost use Rattle.std.specs.Prelude.{◌≡◌, ℕ, true, false, List, [], None,
 ghost use Rattle.std.specs.Io.KnownBytes.{Appends};
 ghost use Rattle.fuota_run.specs.Outside.{HoldsName};
 ghost use Rattle.image_slots.specs.Image.{is_image};
-ghost use Rattle.fuota_run.specs.declared.words.FileForm.TheVariants.{Replay, Decode, Capture};
-ghost use Rattle.fuota_run.specs.Words.{plays, plays_two, payloads, generates, asked, seen_asked, asks_files};
-ghost use Rattle.payload_replay.specs.HeldCapturing.{CapturingStands};
-ghost use Rattle.payload_replay.specs.HeldDecoding.{DecodingStands};
-ghost use Rattle.payload_replay.specs.HeldReplaying.{ReplayingStands};
+ghost use Rattle.fuota_run.specs.Words.{plays, plays_two, generates, asked, seen_asked, asks_files};
 ghost use Rattle.fuota_run.specs.Ending.{HoldsForm, HoldsInvocation, OutsideFiles, IsSoundAnswer, IsSoundOver, WhereNoneFails, IsImageRead, IsReadUp, Ends, AppendsAnswer, IsNoForm, IsFinished, IsFaultless};
 ghost use Rattle.fuota_run.specs.Headline.{IsCampaignRun, IsRecoveryRun};
 ghost use Rattle.fuota_run.specs.PairHeadline.{IsPairRun};
@@ -22,20 +18,19 @@ ghost use Rattle.pair_run.specs.HeldPair.{PairStands};
 use crate::answers::{Answer, answer_of, answer_with, text_answer, unread_answer};
 use crate::campaign_answers::{seed_answer, world_answer};
 use crate::files::Files;
+use crate::forms::{Invocation, ScriptForm};
 use crate::hearing::hear_source;
 use crate::images::{image_answer, read_image};
 use crate::output::write_text;
+use crate::payload_answers::payloads;
 use crate::sink::Sink;
+use crate::source::SCRIPT_LIMIT;
 use crate::status::Status;
-use crate::words::{FileForm, Invocation, ScriptForm, read_words};
+use crate::words::read_words;
 use campaign_generator::generate;
 use campaign_world::World;
 use pair_run::Pair;
-use payload_replay::{Capturing, Decoding, Replaying};
 use std::alloc::{AllocError, Global};
-
-/// The most bytes of a script, and of a file of payloads.
-const SCRIPT_LIMIT: u32 = 1_048_576;
 
 /// What is written where the words are no form.
 const USAGE: &str =
@@ -308,96 +303,6 @@ fn hear_pair<F: Files>(
     match hear_source(files, name, SCRIPT_LIMIT, heard) {
         Ok(()) => text_answer(alloc, heard.report(alloc)),
         Err(error) => unread_answer(alloc, error),
-    }
-}
-
-/// The answer to a form with one file of payloads.
-fn payloads<F: Files>(
-    alloc: Global,
-    files: &mut F,
-    what: FileForm,
-    name: &str,
-) -> Result<Answer, AllocError>
-    requires { HoldsName (F.held files.old) name.now }
-    ensures { IfOk result (λ r. IsSoundOver (F.held files.old)
-        (F.faults files.old) (F.faults files.new) (F.left files.new)
-        (Some (payloads what name.now)) (answer_in r)) }
-{
-    match what {
-        FileForm::Replay => {
-            let mut heard = Replaying::new(alloc);
-            let answer = hear_replay(alloc, files, &mut heard, name);
-            drop(heard);
-            answer
-        }
-        FileForm::Decode { port, dir } => {
-            let heard = Decoding::new(alloc, port, dir);
-            hear_decode(alloc, files, heard, name)
-        }
-        FileForm::Capture => {
-            let heard = Capturing::new(alloc);
-            hear_capture(alloc, files, heard, name)
-        }
-    }
-}
-
-/// The answer after the file of payloads that a new replay hears.
-fn hear_replay<F: Files>(
-    alloc: Global,
-    files: &mut F,
-    heard: &mut Replaying,
-    name: &str,
-) -> Result<Answer, AllocError>
-    requires file { HoldsName (F.held files.old) name.now }
-    requires fresh { ReplayingStands heard.old [] }
-    ensures { IfOk result (λ r. IsSoundOver (F.held files.old)
-        (F.faults files.old) (F.faults files.new) (F.left files.new)
-        (Some (payloads Replay name.now)) (answer_in r)) }
-{
-    match hear_source(files, name, SCRIPT_LIMIT, heard) {
-        Ok(()) => text_answer(alloc, heard.text()),
-        Err(error) => unread_answer(alloc, error),
-    }
-}
-
-/// The answer after the file of payloads that a new decoding hears.
-fn hear_decode<F: Files>(
-    alloc: Global,
-    files: &mut F,
-    mut heard: Decoding,
-    name: &str,
-) -> Result<Answer, AllocError>
-    requires file { HoldsName (F.held files.old) name.now }
-    requires fresh { DecodingStands heard.port heard.direction heard [] }
-    ensures { IfOk result (λ r. IsSoundOver (F.held files.old)
-        (F.faults files.old) (F.faults files.new) (F.left files.new)
-        (Some (payloads (Decode heard.port heard.direction) name.now)) (answer_in r)) }
-{
-    match hear_source(files, name, SCRIPT_LIMIT, &mut heard) {
-        Ok(()) => text_answer(alloc, heard.text()),
-        Err(error) => unread_answer(alloc, error),
-    }
-}
-
-/// The answer after the file of JSON lines that a new capture hears.
-fn hear_capture<F: Files>(
-    alloc: Global,
-    files: &mut F,
-    mut heard: Capturing,
-    name: &str,
-) -> Result<Answer, AllocError>
-    requires file { HoldsName (F.held files.old) name.now }
-    requires fresh { CapturingStands heard [] }
-    ensures { IfOk result (λ r. IsSoundOver (F.held files.old)
-        (F.faults files.old) (F.faults files.new) (F.left files.new)
-        (Some (payloads Capture name.now)) (answer_in r)) }
-{
-    match hear_source(files, name, SCRIPT_LIMIT, &mut heard) {
-        Ok(()) => text_answer(alloc, heard.text()),
-        Err(error) => {
-            drop(heard);
-            unread_answer(alloc, error)
-        }
     }
 }
 

@@ -3,12 +3,15 @@
 ghost use Rattle.std.specs.Prelude.{◌≡◌, ◌≢◌, ℕ, ◌+◌, ◌<◌, ◌≤◌, ◌^◌, true, List, length, vec_len, Err, IfOk, OnOk, IsErrOf};
 ghost use Rattle.std.specs.Io.KnownBytes.{IsAtEnd};
 ghost use Rattle.fuota_run.specs.Outside.{HoldsName, HasRisen, IsReadSoFar};
-ghost use Rattle.fuota_run.specs.HeldReading.{ReadsSource};
+ghost use Rattle.fuota_run.specs.HeldReading.{ReadsPiece, ReadsSource};
 ghost use Rattle.fuota_run.specs.Source.{IsSource};
 
 use crate::files::Files;
 use std::alloc::{AllocError, Global};
 use thiserror::Error;
+
+/// The most bytes of a script, and of a file of payloads.
+pub const SCRIPT_LIMIT: u32 = 1_048_576;
 
 /// How many bytes are asked for at a time.
 pub const PIECE: usize = 4096;
@@ -64,21 +67,12 @@ fn read_piece<F: Files>(
 ) -> Result<usize, SourceError>
     requires chosen { F.chosen files.old ≡ true }
     requires room { vec_len bytes.old < most }
-
     ensures so_far { OnOk result
         ((name : List ℕ) → IsReadSoFar (F.held files.old) name bytes.old.items (F.left files.old)
         → IsReadSoFar (F.held files.old) name bytes.new.items (F.left files.new)) }
-    ensures taken { IfOk result (λ n. vec_len bytes.new ≡ vec_len bytes.old + n) }
-    ensures within { OnOk result (vec_len bytes.new ≤ most) }
-    ensures end { IfOk result (λ n. n ≡ 0 → IsAtEnd (F.left files.new)) }
-
-    ensures failed { IsErrOf result SourceError.Failed
-        → HasRisen (F.faults files.old) (F.faults files.new) }
-    ensures quiet { result ≢ Err SourceError.Failed → F.faults files.new ≡ F.faults files.old }
-    ensures not_long { (taken : ℕ) → result ≢ Err (SourceError.TooLong taken) }
-
-    ensures chosen { F.chosen files.new ≡ true }
-    ensures held { F.held files.new ≡ F.held files.old }
+    ensures reads { ReadsPiece (vec_len bytes.old) (vec_len bytes.new) most (F.chosen files.new)
+        (F.held files.old) (F.held files.new) (F.faults files.old) (F.faults files.new)
+        (F.left files.new) result }
 {
     let mut piece = [0; PIECE];
     let room = PIECE.min(most - bytes.len());

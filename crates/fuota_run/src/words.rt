@@ -3,59 +3,13 @@
 ghost use Rattle.std.specs.Prelude.{◌≡◌, ◌≢◌, ◌≤◌, List, [], ◌∷◌, ℕ, Option, None, Some, option_map, option_and_then, length, map, slice_get, string_bytes, IfOk, IfSome, codes};
 ghost use Rattle.clap.specs.declared.error.kind.ErrorKind.TheVariants as kind;
 ghost use Rattle.clap.specs.Words.{App, Row, Text, app_of, kind_of, first_of, first_value, found_of, new_app, rows_of, subcommand_rows_of, with_rule, with_subcommand};
-ghost use Rattle.fuota_run.specs.Words.{IsCommand, positional, form, with_words, fuota, form_named, campaign_app, recover_app, replay_app, decode_app, generate_app, capture_app, campaigns_app, seen_asked, campaign_asked, recover_asked, replay_asked, decode_asked, generate_asked, capture_asked, campaigns_asked, asked_by, asked, port_of_word, device_of_word, seed_of_word, direction_of_word};
+ghost use Rattle.fuota_run.specs.Words.{IsCommand, positional, form, with_words, fuota, form_named, campaign_app, recover_app, replay_app, decode_app, generate_app, capture_app, campaigns_app, seen_asked, campaign_asked, recover_asked, replay_asked, decode_asked, generate_asked, capture_asked, campaigns_asked, asked_by, asked};
 
+use crate::forms::{FileForm, Invocation, ScriptForm};
+use crate::values::{device_of_word, direction_of_word, port_of_word, seed_of_word};
 use clap::error::{Error, ErrorKind};
 use clap::{Arg, ArgMatches, Command};
-use script_lines::decimal;
 use std::alloc::{AllocError, Global};
-use wire_base::Direction;
-
-/// What the words ask for.
-#[derive(Clone, Copy)]
-pub enum Invocation<'a> {
-    /// A form over a campaign: what is told of it.
-    Script {
-        what: ScriptForm,
-        image: &'a str,
-        script: &'a str,
-    },
-    /// A form with one file of payloads: what is told of it.
-    Payloads {
-        what: FileForm,
-        file: &'a str,
-    },
-    /// `campaigns IMAGE IMAGE SCRIPT`: the report of two campaigns of one script.
-    Pair {
-        image_a: &'a str,
-        image_b: &'a str,
-        script: &'a str,
-    },
-    /// `generate SEED`: the summary of the campaign that the seed makes.
-    Generate {
-        seed: u32,
-    },
-}
-
-/// What is told of a campaign.
-#[derive(Clone, Copy)]
-pub enum ScriptForm {
-    /// `campaign IMAGE SCRIPT`: its report.
-    Campaign,
-    /// `recover IMAGE SCRIPT DEVICE`: the file that a device recovered; the device is 1 to 64.
-    Recover { device: u8 },
-}
-
-/// What is told of a file of payloads.
-#[derive(Clone, Copy)]
-pub enum FileForm {
-    /// `replay FILE`: where a device stands that hears them.
-    Replay,
-    /// `decode PORT DIR FILE`: their commands; the port is 200 to 203.
-    Decode { port: u8, dir: Direction },
-    /// `capture FILE`: of JSON objects both, each with its port and direction.
-    Capture,
-}
 
 /// What the words ask for, the first of them being the program's name; None exactly where they are no form.
 pub fn read_words<'a>(
@@ -402,53 +356,4 @@ fn campaigns_asked<'a>(found: &ArgMatches<'a>) -> Option<Invocation<'a>>
         image_b,
         script,
     })
-}
-
-/// The port that a word spells, 200 to 203.
-fn port_of_word(word: &str) -> Option<u8>
-    ensures { result ≡ port_of_word word.now }
-{
-    let port = decimal(word.as_bytes())?;
-    if 200 <= port && port <= 203 {
-        Some(port as u8)
-    } else {
-        None
-    }
-}
-
-/// The device that a word spells, 1 to 64.
-fn device_of_word(word: &str) -> Option<u8>
-    ensures { result ≡ device_of_word word.now }
-{
-    let device = decimal(word.as_bytes())?;
-    if 1 <= device && device <= 64 {
-        Some(device as u8)
-    } else {
-        None
-    }
-}
-
-/// The seed that a word spells, 0 to 4,294,967,295.
-fn seed_of_word(word: &str) -> Option<u32>
-    ensures { result ≡ seed_of_word word.now }
-{
-    let seed = decimal(word.as_bytes())?;
-    if seed < 1 << 32 {
-        Some(seed as u32)
-    } else {
-        None
-    }
-}
-
-/// The direction that a word spells.
-fn direction_of_word(word: &str) -> Option<Direction>
-    ensures { result ≡ direction_of_word word.now }
-{
-    if word == "down" {
-        Some(Direction::Down)
-    } else if word == "up" {
-        Some(Direction::Up)
-    } else {
-        None
-    }
 }

@@ -34,16 +34,16 @@ returns-in-Ok-eq0 g c = record {
   found = (
     all_read (g.F.Files.held c.args.files.now) c.args.name.now c.read_piece.new.bytes.items c.args.limit (g.F.Files.left c.read_piece.new.files)
         (rw c.loop-files.invariant.held at (c.in-Ok-eq0.ensures.so_far c.args.name.now (rw (sym c.loop-files.invariant.held) at c.loop-files.invariant.so_far)))
-        (c.in-Ok-eq0.ensures.end c.in-Ok-eq0.field-0-test),
-    omega (arith, c.in-Ok-eq0.ensures.taken, c.loop-files-test.true, c.in-Ok-eq0.field-0-test),
+        (c.in-Ok-eq0.ensures.reads.end c.in-Ok-eq0.field-0-test),
+    omega (arith, c.in-Ok-eq0.ensures.reads.taken, c.loop-files-test.true, c.in-Ok-eq0.field-0-test),
   );
-  end = c.in-Ok-eq0.ensures.end c.in-Ok-eq0.field-0-test;
+  end = c.in-Ok-eq0.ensures.reads.end c.in-Ok-eq0.field-0-test;
   long = λ taken is. absurd (ok_err is);
   taken = λ taken is. absurd (ok_err is);
   consumed = λ taken is. absurd (ok_err is);
   failed = λ is. absurd (ok_err is);
-  quiet = λ other. c.in-Ok-eq0.ensures.quiet (λ e. cc) ∙ c.loop-files.invariant.quiet;
-  same = c.read_piece.ensures.held ∙ c.loop-files.invariant.held;
+  quiet = λ other. c.in-Ok-eq0.ensures.reads.quiet (λ e. cc) ∙ c.loop-files.invariant.quiet;
+  same = c.read_piece.ensures.reads.held ∙ c.loop-files.invariant.held;
 }
 
 pub returns : goal.returns
@@ -67,10 +67,10 @@ pub returns-in-Err : goal.returns-in-Err
 returns-in-Err g c = record {
   found = tt;
   end = tt;
-  long = λ taken is. absurd (c.in-Err.ensures.not_long taken cc);
-  taken = λ taken is. absurd (c.in-Err.ensures.not_long taken cc);
-  consumed = λ taken is. absurd (c.in-Err.ensures.not_long taken cc);
-  failed = λ is. subst (λ (n : ℕ). HasRisen n (g.F.Files.faults c.read_piece.new.files)) c.loop-files.invariant.quiet (c.in-Err.ensures.failed cc);
-  quiet = λ other. c.in-Err.ensures.quiet (λ e. other cc) ∙ c.loop-files.invariant.quiet;
-  same = c.read_piece.ensures.held ∙ c.loop-files.invariant.held;
+  long = λ taken is. absurd (c.in-Err.ensures.reads.not_long taken cc);
+  taken = λ taken is. absurd (c.in-Err.ensures.reads.not_long taken cc);
+  consumed = λ taken is. absurd (c.in-Err.ensures.reads.not_long taken cc);
+  failed = λ is. subst (λ (n : ℕ). HasRisen n (g.F.Files.faults c.read_piece.new.files)) c.loop-files.invariant.quiet (c.in-Err.ensures.reads.failed cc);
+  quiet = λ other. c.in-Err.ensures.reads.quiet (λ e. other cc) ∙ c.loop-files.invariant.quiet;
+  same = c.read_piece.ensures.reads.held ∙ c.loop-files.invariant.held;
 }

@@ -2,11 +2,11 @@ use Rattle.std.proofs.Common.{Some, refl}
 use Rattle.report_lines.specs.Texts.{seen_text}
 use Rattle.payload_replay.specs.HeldDecoding.{DecodingStands, HearsDecoded}
 use Rattle.report_lines.proofs.Behind.{behind_all}
-use Rattle.fuota_run.specs.declared.words.FileForm.TheVariants.{Decode}
+use Rattle.fuota_run.specs.declared.forms.FileForm.TheVariants.{Decode}
 use Rattle.fuota_run.specs.Words.{payloads}
 use Rattle.fuota_run.specs.HeldAnswer.{answer_in}
 use Rattle.fuota_run.proofs.AnswerLemmas.{sound_text, sound_unread, gives_file_long, if_ok_map}
-use Rattle.fuota_run.proofs.running.hear_decode.Goals as goal
+use Rattle.fuota_run.proofs.payload_answers.hear_decode.Goals as goal
 
 pub returns-in-Ok : goal.returns-in-Ok
 returns-in-Ok g c = if_ok_map c.text_answer.result (λ r said.
