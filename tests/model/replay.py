@@ -1,0 +1,47 @@
+"""A file of captured payloads, replayed: a device hears them on port 201, and its sessions are told."""
+from .commands import FRAGMENTS
+from .decode import payload_of
+from .device import Config, Downlink, new_device
+from .report import counts_line, told_lines
+from .script import MAX_ROWS
+from .words import MAX_LINE, Refused, decimal_of, lines_of
+
+
+def device_for(rows):
+    """The device of a replay."""
+    return new_device(Config(is_class_a=False, hardware=0, rows=rows, offset=0, key=bytes(16)))
+
+
+def hear(device, payload, number):
+    """A payload comes by unicast at moment 0, with random word 0; the uplinks are thrown away."""
+    device.receive(0, Downlink(FRAGMENTS, payload), 0, number)
+    device.take_uplinks()
+
+
+def headed_lines(keyword, file):
+    """The rows that the header of a file gives, and the lines after it with their numbers; or Refused."""
+    lines = lines_of(file)
+    header = lines[0] if lines else ""
+    if len(header) > MAX_LINE:
+        raise Refused(1, "limit")
+    words = header.split(" ")
+    if len(words) != 3 or words[:2] != [keyword, "1"] or decimal_of(words[2]) is None:
+        raise Refused(1, "syntax")
+    rows = decimal_of(words[2])
+    if rows > MAX_ROWS:
+        raise Refused(1, "range")
+    return rows, list(enumerate(lines[1:], 2))
+
+
+def closing_text(device):
+    """The counts, the sessions with their files, and the last line."""
+    return counts_line(device.counts) + told_lines(device.sessions) + "end\n"
+
+
+def replay(file):
+    """The text of a file of captured payloads."""
+    rows, lines = headed_lines("replay", file)
+    device = device_for(rows)
+    for number, line in lines:
+        hear(device, payload_of(number, line), number)
+    return "fuota replay 1\n" + closing_text(device)

@@ -1,0 +1,66 @@
+"""The lines that are told of images, devices, and their sessions (docs/FORMATS.md, report)."""
+from .image import VALID
+from .session import COMPLETE, RECEIVING
+
+
+def next_text(state):
+    """The image in the next slot."""
+    return f"valid {state[1]}" if state[0] == VALID else state[0]
+
+
+def device_line(name, stage, device):
+    """device NAME STAGE clock OFFSET token T running V next NEXT."""
+    return (
+        f"device {name} {stage} clock {device.clock.offset} token {device.clock.token}"
+        f" running {device.slots.running} next {next_text(device.slots.next)}\n"
+    )
+
+
+def counts_line(counts):
+    """counts deaf A refused B full C dropped D."""
+    return f"counts deaf {counts.deaf} refused {counts.refused} full {counts.full} dropped {counts.dropped}\n"
+
+
+def session_line(index, session, verdict, behind):
+    """session I received N missing K STATE; behind a whole file's line stands more."""
+    state = verdict.state
+    if state != RECEIVING:
+        state += f" at {verdict.mark}"
+    if verdict.state == COMPLETE:
+        state += behind
+    return f"session {index} received {session.received} missing {verdict.missing} {state}\n"
+
+
+def session_lines(sessions, behind, below):
+    """The lines of all sessions; of a whole file `behind` and `below` say what stands after its line and under it."""
+    text = ""
+    for index, session in enumerate(sessions):
+        if session is not None:
+            verdict = session.verdict()
+            text += session_line(index, session, verdict, behind(verdict.file))
+            text += below(verdict.file) if verdict.state == COMPLETE else ""
+    return text
+
+
+def compared_lines(sessions, image):
+    """Sessions whose files are compared with an image."""
+    return session_lines(sessions, lambda file: " same" if file == image else " other", lambda file: "")
+
+
+def told_lines(sessions):
+    """Sessions whose files are told in hex."""
+    return session_lines(sessions, lambda file: "", lambda file: f"file {file.hex()}\n")
+
+
+def device_part(name, stage, device, image):
+    """The lines of a device of a campaign."""
+    return device_line(name, stage, device) + counts_line(device.counts) + compared_lines(device.sessions, image)
+
+
+def image_words(server):
+    """SIZE fragments M size FRAGSIZE padding PAD parity P."""
+    plan = server.plan
+    return (
+        f"{len(server.image)} fragments {server.pieces} size {plan.fragsize} padding {server.padding}"
+        f" parity {plan.parity}"
+    )
