@@ -9,7 +9,7 @@ from .drawn import (
 )
 from .groups import frame_of, wrapped
 from .pair import Pair, pair_form_of
-from .parity import fragment_of
+from .parity import fragment_of, padding_for, pieces_for
 from .script import form_of
 from .windows import BEACON, FIRST_SLOT_MS, SLOT_MS, beacon_at, ping_offset
 from .world import World
@@ -125,7 +125,7 @@ def frag_size(rng, length):
 def group_line(rng, letter, ident):
     """A group, often with few counts, or counts about a multiple of 65,536."""
     low = rng.choice((0, 0, 1, 65_530, 65_535, 2**32 - 40))
-    high = min(2**32 - 1, low + rng.choice((1, 3, 12, 60, 70_000)))
+    high = min(2**32 - 1, low + rng.choice((1, 3, 12, 60, 70_000, 70_000, 70_000)))
     words = ["group", *([letter, str(ident)] if letter else []), f"{rng.getrandbits(32):08x}", rng.randbytes(16).hex()]
     return " ".join([*words, str(low), str(high)])
 
@@ -147,7 +147,7 @@ def device_line(draft, letter, number):
     head = server.head
     hardware = rng.choice((head.lowest, head.highest)) if chance(rng, 90) else rng.choice((0, head.highest + 1, 77))
     rows = rng.choice((0, 1, 2, server.pieces, 40, 256))
-    offset = rng.choice((0, 0, 0, 0, 1, 5, 2**32 - 1, 2**32 - 7, 2**31))
+    offset = 0 if chance(rng, 60) else rng.choice((1, 5, 2**32 - 1, 2**32 - 7, 2**31))
     key = rng.choice((NO_KEY, rng.randbytes(16).hex(), rng.randbytes(16).hex().upper()))
     words = ["device", number, *([letter] if letter else []), rng.choice("ac"), hardware % 2**32, min(rows, 256), offset, key]
     if chance(rng, 12):
@@ -156,27 +156,40 @@ def device_line(draft, letter, number):
     return " ".join(str(word) for word in words)
 
 
+def plan_line(draft, line):
+    """A line of the plan, or one like it with a wrong number, with which the script ends."""
+    if chance(draft.rng, 2):
+        draft.write_wrong(with_wrong_number(draft.rng, line))
+    draft.write(line)
+
+
 def write_plan(draft):
     """All lines before the first event."""
     rng, letters = draft.rng, list(draft.sides)
-    draft.write("fuota 2" if len(letters) == 2 else "fuota 1")
+    plan_line(draft, "fuota 2" if len(letters) == 2 else "fuota 1")
     indexes, idents = rng.sample(range(4), 2), rng.sample(range(4), 2)
     for k, letter in enumerate(letters):
         wrong_line(draft, 2)
         size = frag_size(rng, len(draft.images[k]))
         parity = rng.choice((0, 1, 4, 20, 512))
-        draft.write(draft.head("image", letter) + f" {size} {parity}" + (f" {indexes[k]}" if letter else ""))
+        plan_line(draft, draft.head("image", letter) + f" {size} {parity}" + (f" {indexes[k]}" if letter else ""))
         if chance(rng, 60):
-            draft.write(group_line(rng, letter, idents[k]))
+            plan_line(draft, group_line(rng, letter, idents[k]))
             wrong_line(draft, 2)
-            draft.write(window_line(rng, letter))
+            plan_line(draft, window_line(rng, letter))
     wanted = letters + [rng.choice(letters) for _ in range(rng.choice((0, 0, 1, 2, 4)))]
+    wanted += [rng.choice(letters)] * 4 if chance(rng, 3) else []
     rng.shuffle(wanted)
+    flash = len(wanted) > 6
     for letter in wanted:
         wrong_line(draft, 2)
         if draft.is_over:
             return
-        draft.write(device_line(draft, letter, len(draft.ids) + 1))
+        line = device_line(draft, letter, len(draft.ids) + 1)
+        if flash:
+            draft.write_wrong(line.removesuffix(" flash") + " flash")
+        else:
+            plan_line(draft, line)
 
 
 # ---- moments
@@ -193,6 +206,11 @@ def slot_of(rng, session, addr):
     period = 2 ** (5 + session.periodicity)
     slot = ping_offset(beacon, addr, period) + period * rng.randrange(4096 // period)
     return 1000 * beacon + FIRST_SLOT_MS + SLOT_MS * slot
+
+
+def receive_delay(rng):
+    """The ms after an uplink at which a device of class A hears, the first or the last, or in some cases those beside them."""
+    return rng.choice((1000, 1099, 2000, 2099) if chance(rng, 88) else (999, 1100, 1999, 2100))
 
 
 def open_moments(rng, device):
@@ -227,6 +245,8 @@ def write_time(draft):
     moments = [now, now + 1, now + rng.randint(1, 5000), now + 128_000]
     if device.last_due is not None:
         moments += [device.last_due + delay for delay in UPLINK_DELAYS]
+    if device.reboot is not None:
+        moments += [device_moment(device, 1000 * device.reboot + ms) for ms in (-1, 0, 0)]
     moments += border_moments(rng, device)
     due = [made.uplink.due + rng.choice((-1, 0)) for side in draft.sides.values() for made in side.uplinks[-4:]]
     soon = [t for t in moments + due if now <= t <= now + 2**37]
@@ -236,25 +256,25 @@ def write_time(draft):
 # ---- payloads on their way
 
 
-def random_word(rng):
+def random_word(rng, percent=25):
     """WORD, or none."""
-    return f" {border(rng, 0, 2**32 - 1)}" if chance(rng, 25) else ""
+    return f" {border(rng, 0, 2**32 - 1)}" if chance(rng, percent) else ""
 
 
-def write_delivery(draft, letter, number, device):
-    """A sent payload reaches a device, as bytes or as a frame."""
+def write_delivery(draft, letter, number, device, percent=25):
+    """A sent payload reaches a device, as bytes or as a frame, with WORD in so many of a hundred cases."""
     word = "air" if draft.sides[letter].server.plan.group and chance(draft.rng, 30) else "down"
-    if not draft.write(f"{word} {letter}{number} {device}{random_word(draft.rng)}"):
+    if not draft.write(f"{word} {letter}{number} {device}{random_word(draft.rng, percent)}"):
         draft.write(f"down {letter}{number} {device}")
 
 
-def deliver_last(draft, letter, loss):
+def deliver_last(draft, letter, loss, percent=10):
     """What the server sent last reaches the devices, but for losses; some twice."""
     number = len(draft.sides[letter].sent)
     for device in range(1, len(draft.ids) + 1):
         if draft.ids[device - 1][0] == letter and not chance(draft.rng, loss):
             for _ in range(2 if chance(draft.rng, 5) else 1):
-                write_delivery(draft, letter, number, device)
+                write_delivery(draft, letter, number, device, percent)
 
 
 def write_turn(draft):
@@ -271,7 +291,7 @@ def write_turn(draft):
     if device.config.is_class_a and device.last_due is None:
         draft.write(f"wake {number}")
     if device.config.is_class_a:
-        draft.write(f"at {device.last_due + rng.choice((1000, 1099, 2000, 2099))}")
+        draft.write(f"at {device.last_due + receive_delay(rng)}")
     draft.write(f"down {letter}{before[0] + 1} {number}")
     if len(side.uplinks) > before[1] and not chance(rng, 5):
         due = side.uplinks[-1].uplink.due
@@ -286,34 +306,57 @@ def write_open(draft, letter):
     number = rng.choice([k for k, (other, _) in enumerate(draft.ids, 1) if other == letter])
     device, _ = draft.device_of(number)
     if draft.sides[letter].server.plan.group is not None:
-        later = [t for t in open_moments(rng, device) if t >= draft.time]
+        beside = rng.choice((-1, 1)) if chance(rng, 25) else 0
+        later = [t + beside for t in open_moments(rng, device) if t + beside >= draft.time]
         if later:
             draft.write(f"at {rng.choice(later)}")
     elif device.config.is_class_a and draft.write(f"wake {number}"):
-        draft.write(f"at {draft.time + rng.choice((1000, 1099, 2000, 2099))}")
+        draft.write(f"at {draft.time + receive_delay(rng)}")
 
 
-def write_fragments(draft):
-    """Some fragments are sent, or all with some coded ones, and reach devices."""
+def write_fragments(draft, percent=40):
+    """Some fragments are sent, or in so many of a hundred cases all, with coded ones, and reach devices."""
     rng, letter = draft.rng, draft.rng.choice(list(draft.sides))
     loss = rng.choice((0, 0, 10, 20, 50))
     if chance(rng, 85):
         write_open(draft, letter)
     server = draft.sides[letter].server
     left = max(0, server.pieces + 1 - server.next)
-    for _ in range(left + rng.choice((0, 3, 10, 40)) if chance(rng, 60) else rng.choice((1, 3, 10))):
+    for _ in range(left + rng.choice((0, 3, 10, 40)) if chance(rng, percent) else rng.choice((1, 3, 10))):
         if not draft.write(draft.head("frag", letter)):
             return
         deliver_last(draft, letter, loss)
 
 
 def write_status(draft):
-    """All are asked for their status, and hear it or not."""
-    letter = draft.rng.choice(list(draft.sides))
-    if chance(draft.rng, 60):
+    """All are asked for their status, and hear it or not; then maybe an answer comes that is due later."""
+    rng, letter = draft.rng, draft.rng.choice(list(draft.sides))
+    if chance(rng, 60):
         write_open(draft, letter)
     if draft.write(draft.head("status", letter)):
-        deliver_last(draft, letter, 20)
+        deliver_last(draft, letter, 10, percent=80)
+    side = draft.sides[letter]
+    if side.uplinks and side.uplinks[-1].uplink.due > draft.time:
+        draft.write(f"at {side.uplinks[-1].uplink.due - rng.choice((0, 0, 1))}")
+        up = f"up {letter}{len(side.uplinks)}"
+        if chance(rng, 20):
+            draft.write_wrong(up)
+        else:
+            draft.write(up)
+
+
+def write_spent(draft):
+    """All that a server may still send, where that is little, and then maybe one thing more."""
+    rng, letter = draft.rng, draft.rng.choice(list(draft.sides))
+    server, word = draft.sides[letter].server, draft.rng.choice(("frag", "status"))
+    group = server.plan.group
+    counts = group.max - server.count if group else 1000
+    left = min(counts, server.pieces + server.plan.parity + 1 - server.next) if word == "frag" else counts
+    if left <= 60:
+        for _ in range(left):
+            draft.write(draft.head(word, letter))
+        if chance(rng, 10):
+            draft.write_wrong(draft.head(rng.choice((word, "frag", "status")), letter))
 
 
 def write_old(draft):
@@ -324,6 +367,17 @@ def write_old(draft):
         write_delivery(draft, letter, rng.randint(1, len(side.sent)), rng.randint(1, len(draft.ids)))
     elif side.uplinks:
         draft.write(f"up {letter}{rng.randint(1, len(side.uplinks))}")
+
+
+def write_clock(draft):
+    """A device asks for the time, and hears the answer at once, later, or never."""
+    rng, number = draft.rng, draft.rng.randint(1, len(draft.ids))
+    device, letter = draft.device_of(number)
+    side = draft.sides[letter]
+    if draft.write(f"wake {number}") and draft.write(f"up {letter}{len(side.uplinks)}"):
+        if device.config.is_class_a or chance(rng, 30):
+            draft.write(f"at {draft.time + receive_delay(rng)}")
+        draft.write(f"down {letter}{len(side.sent)} {number}")
 
 
 def write_event(draft):
@@ -357,7 +411,7 @@ def strange_setup(rng, device, server):
     return command_of(
         rng,
         ROWS["FragSessionSetupReq"],
-        nbfrag=rng.choice((count, count, 0, 1, 4096, 4097, 16383, 65535)),
+        nbfrag=rng.choice((count, count, 0, 1, 1097, 1098, 4096, 4097, 16383, 65535)),
         fragsize=rng.choice((size, size, 0, 1, 239, 240, 64, 65)),
         algo=rng.choice((0, 0, 0, 1, 7)),
         padding=rng.choice((0, 0, size - 1, size)),
@@ -385,7 +439,9 @@ def session_request(rng, device, draft):
 def chosen_command(draft, device, server):
     """A command that does something to this device now."""
     rng, now = draft.rng, device.clock.seconds(draft.time)
-    how = rng.randint(0, 8)
+    how = rng.randint(0, 9)
+    if how == 9:
+        return make("DevDeleteImageReq", version=rng.choice((server.head.firmware, server.head.firmware, 0)))
     if how <= 2:
         return strange_fragment(rng, device, server)
     if how == 3:
@@ -403,11 +459,23 @@ def chosen_command(draft, device, server):
     return make("AppTimeAns", correction=rng.choice((0, 1, -1, 2**31 - 1, -(2**31), rng.randint(-99, 99))), token=token)
 
 
+def crowded_payload(rng):
+    """A port and a payload that is answered with as many uplinks as the outbox holds, or one less or more."""
+    count = rng.choice((7, 8, 8, 9))
+    port = rng.randint(200, 203)
+    resync = rng.randint(0, 7)
+    if port == 202 and resync:
+        return port, spelling(make("ForceDeviceResyncReq", count=resync)) + b"\0" * (count - resync)
+    return port, b"\0" * count
+
+
 def write_raw(draft):
-    """Anybody's payload: commands that act on this device now, or any payload of a port."""
+    """Anybody's payload: commands that act on this device now, many of them, or any payload of a port."""
     rng, number = draft.rng, draft.rng.randint(1, len(draft.ids))
     device, letter = draft.device_of(number)
-    if chance(rng, 60):
+    if chance(rng, 8):
+        port, data = crowded_payload(rng)
+    elif chance(rng, 60):
         command = chosen_command(draft, device, draft.sides[letter].server)
         row = ROWS[command.name]
         port, data = row.ports[0], loose_spelling(rng, row, command)
@@ -419,6 +487,33 @@ def write_raw(draft):
         data = payload(rng, port, "down")
         port = rng.choice((0, 199, 204, 255)) if chance(rng, 4) else port
     draft.write(f"raw {number} {port} {data[:242].hex() or '-'}{random_word(rng)}")
+
+
+def other_image(rng, device, server):
+    """An image file that is not the server's: of another version, for other hardware, of the other format, or damaged."""
+    hardware = device.config.hardware if chance(rng, 70) else rng.getrandbits(32)
+    firmware = rng.choice((server.head.firmware, 3, 4))
+    image = image_file(rng, hardware, hardware, firmware, rng.randint(0, 60), rng.choice((1, 2)))
+    return damaged(rng, image) if chance(rng, 30) else image
+
+
+def write_image(draft):
+    """Somebody sends a device another file that may be an image, in one or two pieces."""
+    rng, number = draft.rng, draft.rng.randint(1, len(draft.ids))
+    device, letter = draft.device_of(number)
+    server = draft.sides[letter].server
+    image = other_image(rng, device, server)
+    size = rng.choice((120, 60, 64))
+    count = pieces_for(len(image), size)
+    fields = dict(mask=0, nbfrag=count, fragsize=size, algo=0, delay=0, padding=padding_for(len(image), size))
+    index = rng.randint(0, 3)
+    setup = make("FragSessionSetupReq", index=index, descriptor=server.head.firmware, **fields)
+    draft.write(f"raw {number} 201 {spelling(setup).hex()}")
+    for n in range(1, count + 1):
+        fragment = make("DataFragment", index=index, n=n, bytes=fragment_of(image, size, n))
+        draft.write(f"raw {number} 201 {spelling(fragment).hex()}")
+    if chance(rng, 30):
+        draft.write(f"raw {number} 203 {spelling(make('DevRebootCountdownReq', count=rng.choice((0, 1, 60)))).hex()}")
 
 
 def changed_frame(rng, frame):
@@ -454,33 +549,75 @@ def write_raw_air(draft):
     draft.write(f"rawair {number} {frame[:290].hex() or '-'}{random_word(rng)}")
 
 
+def write_stranger(draft):
+    """Somebody sets up a group whose key they chose, and a class session of it, and sends frames to it."""
+    rng, number = draft.rng, draft.rng.randint(1, len(draft.ids))
+    device, letter = draft.device_of(number)
+    server, now = draft.sides[letter].server, device.clock.seconds(draft.time)
+    group = known_group(rng, device, server)
+    session = command_of(
+        rng, ROWS["McClassCSessionReq"], id=group["id"], time=now, timeout=4, freq=8_630_000, dr=rng.choice((0, 5))
+    )
+    if device.config.is_class_a and draft.write(f"wake {number}"):
+        draft.write(f"at {draft.time + 1000}")
+    draft.write(f"raw {number} 200 {(spelling(group) + spelling(session)).hex()}")
+    for _ in range(4):
+        frame = strange_frame(rng, device, server)
+        draft.write(f"rawair {number} {frame[:290].hex() or '-'}{random_word(rng)}")
+
+
 # ---- wrong lines
 
 
+LASTS = (3, 7, 15, 64, 239, 255, 256, 512, 4096, 2**24 - 1, 2**32 - 1, 2**64 - 1)
+
+
 def with_wrong_number(rng, line):
-    """A line with one of its numbers outside every range."""
+    """A line with one of its numbers just outside some range, or another of its numbers."""
     words = line.split(" ")
     places = [k for k, word in enumerate(words) if word.isdecimal() and len(word) < 20]
     if places:
-        words[rng.choice(places)] = str(beyond(rng, 0, rng.choice((3, 64, 239, 255, 4096, 2**32 - 1))))
+        at = rng.choice(places)
+        words[at] = words[rng.choice(places)] if chance(rng, 20) else str(beyond(rng, 0, rng.choice(LASTS)))
     return " ".join(words)
 
 
-def candidates(draft):
-    """Lines that are refused in most places: each cause has some."""
+def any_payload(draft):
+    """A payload of any campaign to any device: one to another device, any other, or one number more."""
     rng, letter = draft.rng, draft.rng.choice(list(draft.sides))
-    side, now, devices = draft.sides[letter], draft.time, len(draft.ids)
-    late = len(side.uplinks)
-    return (
-        f"at {max(0, now - 1)}", "at 4294967296000", "at 4294967295999", f"wake {devices + 1}", "ask 0", f"power {max(1, devices)}",
-        f"down {letter}{len(side.sent) + 1} 1", f"down {letter}0 1", f"down {letter}1 {devices + 1}", f"up {letter}{late + 1}",
-        f"up {letter}{late}", f"air {letter}{len(side.sent)} 1", f"air {letter}1 1", "end", "end\r", "", " ", "fuota 1", "fuota 2",
-        draft.head("image", letter) + " 13 0" + (" 0" if letter else ""), draft.head("frag", letter), "frag", "frag c",
-        draft.head("status", letter), group_line(rng, letter, 0), window_line(rng, letter), "raw 1 201 " + "0" * 486,
-        "raw 1 256 -", "raw 1 201 0", "raw 1 201 -", f"rawair {devices + 1} -", "rawair 1 " + "0" * 590, "x" * 600, "x" * 601,
-        f"device {devices + 1} {letter + ' ' if letter else ''}c 1 0 0 {NO_KEY} flash", f"device {devices + 2} c 1 0 0 {NO_KEY}",
-        f"down {letter}1 1 4294967296", f"down {letter}1 1 4294967295",
-    )
+    sent = draft.sides[letter].sent
+    unicast = [number for number, payload in enumerate(sent, 1) if payload.receiver is not None]
+    number = rng.choice(unicast) if unicast and chance(rng, 60) else rng.randint(0, len(sent) + 1)
+    return f"{rng.choice(('down', 'air'))} {letter}{number} {rng.randint(1, max(1, len(draft.ids)))}"
+
+
+def candidates(draft):
+    """For each cause lines that are refused for it in most places."""
+    rng, letter = draft.rng, draft.rng.choice(list(draft.sides))
+    side, devices = draft.sides[letter], len(draft.ids)
+    late, mark = len(side.uplinks), f"{letter} " if letter else ""
+    return {
+        "time": (f"at {max(0, draft.time - 1)}", "at 0"),
+        "order": (
+            "end", "fuota 1", "fuota 2", draft.head("image", letter) + " 13 0" + (" 0" if letter else ""), "at 4294967295999",
+            group_line(rng, letter, 0), window_line(rng, letter), f"device {devices + 1} {mark}a 1 0 0 {NO_KEY}",
+        ),
+        "range": (
+            "at 4294967296000", f"down {letter}1 1 4294967296", f"down {letter}1 1 4294967295", "raw 1 256 -", "raw 1 255 -",
+            f"device {devices + 2} {mark}c 1 0 0 {NO_KEY}", f"device {devices + 1} {mark}c 1 257 0 {NO_KEY}",
+            draft.head("image", letter) + " 240 0" + (" 0" if letter else ""), "rawair 1 - 4294967296",
+        ),
+        "device": (
+            f"wake {devices + 1}", "ask 0", f"power {max(1, devices)}", "power 1", f"migrate {devices + 1}",
+            f"rawair {devices + 1} -", f"down {letter}1 {devices + 1}", f"raw 0 201 -",
+        ),
+        "unsent": (*(any_payload(draft) for _ in range(6)), f"up {letter}{late + 1}", f"up {letter}{late}", f"up {letter}0"),
+        "limit": (
+            draft.head("frag", letter), draft.head("status", letter), "raw 1 201 " + "0" * 486, "x" * 601,
+            "rawair 1 " + "0" * 590, f"device {devices + 1} {mark}c 1 0 0 {NO_KEY} flash",
+        ),
+        "syntax": ("", " ", "end\r", "frag", "frag c", "raw 1 201 0", "rawair 1 0", "x" * 600, "down c1 1", "up a", "air 1"),
+    }
 
 
 def wrong_line(draft, percent):
@@ -488,12 +625,21 @@ def wrong_line(draft, percent):
     rng = draft.rng
     if not chance(rng, percent):
         return
-    if draft.lines and chance(rng, 40):
+    if draft.lines and chance(rng, 15):
         draft.write_wrong(misspelled(rng, rng.choice(draft.lines)))
-    elif draft.lines and chance(rng, 40):
+    elif not draft.is_over and chance(rng, 20):
+        draft.write_wrong(any_payload(draft))
+    elif draft.lines and chance(rng, 25):
         draft.write_wrong(with_wrong_number(rng, rng.choice(draft.lines[-30:])))
     else:
-        draft.write_wrong(rng.choice(candidates(draft)))
+        lines = candidates(draft)
+        draft.write_wrong(rng.choice(lines[rng.choice(sorted(lines))]))
+
+
+def write_many(draft):
+    """So many lines that the next one, or the one after it, is too many."""
+    while not draft.is_over and len(draft.lines) < draft.rng.choice((19_998, 19_999, 20_000)):
+        draft.write(f"at {draft.time}")
 
 
 # ---- scripts
@@ -504,9 +650,10 @@ def write_round(draft, hostile):
     rng = draft.rng
     if draft.is_over:
         return
-    makers = [write_turn] * 6 + [write_fragments] * 3 + [write_time] * 3 + [write_status, write_old, write_old, write_event]
+    makers = [write_turn] * 6 + [write_fragments] * 3 + [write_time] * 3 + [write_status] * 2 + [write_old] * 2
+    makers += [write_event, write_clock, write_spent]
     if hostile:
-        makers += [write_raw] * 8 + [write_raw_air] * 4
+        makers += [write_raw] * 9 + [write_raw_air] * 4 + [write_stranger, write_image]
     rng.choice(makers)(draft)
 
 
@@ -516,13 +663,19 @@ def write_events(draft):
     if chance(rng, 85):
         for _ in range(5 * len(draft.ids)):
             write_turn(draft)
+        if chance(rng, 70):
+            write_fragments(draft, 100)
     for _ in range(rng.choice((0, 5, 20, 40, 80))):
         write_round(draft, hostile)
         wrong_line(draft, 0.4)
     if chance(rng, 60):
         for _ in range(6 * len(draft.ids)):
             write_turn(draft)
-    wrong_line(draft, 10)
+    wrong_line(draft, 20)
+    if len(draft.sides) == 2 and chance(rng, 25):
+        draft.write_wrong(any_payload(draft))
+    if chance(rng, 0.4):
+        write_many(draft)
     if chance(rng, 97):
         draft.write("end")
         wrong_line(draft, 4)

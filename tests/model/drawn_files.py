@@ -107,7 +107,7 @@ def header_line(rng, keyword):
     """The header of a file, in a few cases a wrong one."""
     header = f"{keyword} 1 {rng.choice((0, 1, 2, 4, 16, 256, rng.randint(0, 256)))}"
     if chance(rng, 3):
-        return f"{keyword} 1 {beyond(rng, 0, 256)}"
+        return f"{keyword} 1 {rng.choice((beyond(rng, 0, 256), '9' * 591, '9' * 592, '9' * 600))}"
     return misspelled(rng, header) if chance(rng, 3) else header
 
 
@@ -201,7 +201,7 @@ def foreign_entry(rng):
 
 def capture_case(rng):
     """A capture of sessions, or of odd objects alone."""
-    if chance(rng, 30):
+    if chance(rng, 45):
         row = ROWS["DataFragment"]
         data = loose_spelling(rng, row, command_of(rng, row))
         members = [("port", "201"), ("dir", '"down"'), ("hex", json.dumps(data.hex()))]
