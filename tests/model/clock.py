@@ -1,4 +1,7 @@
-"""A device's clock and its corrections (TS003-1.0.0). Times are since the GPS epoch."""
+"""A device's clock and its corrections (TS003-1.0.0).
+
+True time is in ms since the GPS epoch; a device's clock has 32 bits of seconds, and begins anew after them.
+"""
 from dataclasses import dataclass
 
 ROUND = 2**32

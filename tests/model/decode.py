@@ -1,4 +1,7 @@
-"""A file of payloads, decoded: the text of each command, or where and why reading a payload stops."""
+"""A file of payloads, decoded: the text of each command, or where and why reading a payload stops.
+
+Each line is a payload as hex digits; the first line that is none, or too long, is refused in the place of all text.
+"""
 from .commands import Refusal, read_payload
 from .texts import command_text
 from .words import MAX_PAYLOAD, Refused, bytes_of_hex, is_beyond, lines_of

@@ -1,4 +1,7 @@
-"""The campaign of a seed: its image and script are drawn from one sequence of numbers, and played and summed up."""
+"""The campaign of a seed: its image and script are drawn from one sequence of numbers, and played and summed up.
+
+Eight devices of class C without a group lose at most 60 pieces each, so that all of them are updated in the end.
+"""
 from .image import make_image
 from .parity import pieces_for
 from .server import UPDATED

@@ -1,4 +1,7 @@
-"""Image files of both formats, what one is to a device, and a device's two slots (docs/FORMATS.md, image file)."""
+"""Image files of both formats, and what one is to a device (docs/FORMATS.md, image file).
+
+A device has two slots: what runs, and what was received to run next, whose state is read when its file comes.
+"""
 import hashlib
 from dataclasses import dataclass
 

@@ -1,4 +1,7 @@
-"""A file of captured payloads, replayed: a device hears them on port 201, and its sessions are told."""
+"""A file of captured payloads, replayed: a device hears them on port 201, and its sessions are told.
+
+The device is of class C, its clock is right, and the header gives its rows. The mark of a payload is its line.
+"""
 from .commands import FRAGMENTS
 from .decode import payload_of
 from .device import Config, Downlink, new_device

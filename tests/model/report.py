@@ -1,4 +1,7 @@
-"""The lines that are told of images, devices, and their sessions (docs/FORMATS.md, report)."""
+"""The lines that are told of images, devices, and their sessions (docs/FORMATS.md, report).
+
+A campaign compares whole files with its image; a replay and a capture tell their bytes.
+"""
 from .image import VALID
 from .session import COMPLETE, RECEIVING
 

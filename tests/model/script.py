@@ -110,9 +110,8 @@ def device_class(word):
 def device_words(words):
     """ID CLASS HW ROWS OFFSET KEY, then DESCRIPTOR, v1, k11 and flash, each of them or not."""
     first, rest = words[:6], words[6:]
-    fields = fields_of(
-        first, ("id", decimal), ("class", device_class), ("hw", decimal), ("rows", decimal), ("offset", decimal), ("key", key)
-    )
+    numbers = ("hw", decimal), ("rows", decimal), ("offset", decimal)
+    fields = fields_of(first, ("id", decimal), ("class", device_class), *numbers, ("key", key))
     for name in ("flash", "k11", "v1"):
         fields[name] = rest[-1:] == [name]
         if fields[name]:

@@ -1,7 +1,7 @@
 """A session of fragments as its history: the setup, and all fragments that it heard (TS004-1.0.0).
 
-The verdict is worked out of the whole history, each time that it is asked for: from how many lines are independent, with
-and without the data that came with them. No equation is solved before one file alone fits.
+The verdict is worked out of the whole history, each time that it is asked for: from how many lines are independent,
+with and without the data that came with them. No equation is solved before one file alone fits.
 """
 from dataclasses import dataclass, field
 from typing import NamedTuple
@@ -143,7 +143,7 @@ def verdict_of(setup, rows, heard):
 
 @dataclass(frozen=True)
 class Limits:
-    """What a device lets a session be: rows for coded fragments, the one descriptor if any, and whether it is in flash."""
+    """What a device lets a session be: its rows, the one descriptor if any, and whether it is held in flash."""
 
     rows: int
     descriptor: int | None

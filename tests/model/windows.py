@@ -36,7 +36,7 @@ def ping_offset(beacon, addr, period):
 
 
 def is_in_ping_slot(device_ms, addr, periodicity):
-    """One of the slots of the address is open: those of every period, each of 30 ms, from 2,120 ms after the beacon on."""
+    """A slot of the address is open: one in every period, each of 30 ms, from 2,120 ms after the beacon on."""
     beacon = beacon_at(device_ms // 1000)
     period = 2 ** (5 + periodicity)
     ms = device_ms - 1000 * beacon
@@ -54,7 +54,8 @@ def is_open_c(start, timeout, device_ms):
 
 def is_open_b(start, periodicity, timeout, device_ms, addr):
     """A class B session hears in its slots for 2^timeout beacons, from a beacon on."""
-    return is_running(beacon_at(start), BEACON * 2**timeout, device_ms) and is_in_ping_slot(device_ms, addr, periodicity)
+    runs = is_running(beacon_at(start), BEACON * 2**timeout, device_ms)
+    return runs and is_in_ping_slot(device_ms, addr, periodicity)
 
 
 def session_errors(has_group, freq, dr):

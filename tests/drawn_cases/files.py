@@ -1,9 +1,13 @@
-"""Files of payloads that are drawn: replayed, decoded and captured, and words that are no form."""
+"""Files of payloads that are drawn: replayed, decoded and captured, and words that are no form.
+
+A session's payloads are a setup and the fragments of a file, with losses, repeats and strange ones. Objects of a
+capture have oddities of JSON.
+"""
 import json
 
-from .commands import DOWN, ROWS, UP, make
-from .drawn import Case, beyond, border, chance, command_of, loose_spelling, misspelled, payload, some_bytes
-from .parity import fragment_of, padding_for, pieces_for
+from model.commands import DOWN, ROWS, UP, make
+from .values import Case, beyond, border, chance, command_of, loose_spelling, misspelled, payload, some_bytes
+from model.parity import fragment_of, padding_for, pieces_for
 
 
 def joined(rng, lines):
@@ -194,7 +198,8 @@ def entry_line(rng, port, direction, data):
 
 def foreign_entry(rng):
     """A payload that the device of a capture does not hear."""
-    port, direction = rng.choice(((200, DOWN), (202, DOWN), (203, DOWN), (201, UP), (200, UP), (203, UP), (7, UP), (0, DOWN)))
+    ways = (200, DOWN), (202, DOWN), (203, DOWN), (201, UP), (200, UP), (203, UP), (7, UP), (0, DOWN)
+    port, direction = rng.choice(ways)
     data = payload(rng, port, direction) if 200 <= port <= 203 else some_bytes(rng, rng.randint(0, 5))
     return entry_line(rng, port, direction, data)
 
@@ -215,10 +220,14 @@ def capture_case(rng):
 
 # ---- words
 
-STRANGE_WORDS = ("", "-", "--", "-x", "--help", "-1", "0", "65", "01", "+1", "4294967296", "down", "up", "file", "200", "204")
+STRANGE_WORDS = (
+    "", "-", "--", "-x", "--help", "-1", "0", "65", "01", "+1", "4294967296", "down", "up", "file", "200", "204",
+    "\udcff",
+)
 FORM_WORDS = (
-    ("campaign", "file", "file"), ("recover", "file", "file", "1"), ("replay", "file"), ("decode", "201", "down", "file"),
-    ("generate", "7x"), ("capture", "file"), ("campaigns", "file", "file", "file"), ("help",), ("--help",), ("update",),
+    ("campaign", "file", "file"), ("recover", "file", "file", "1"), ("replay", "file"), ("generate", "7x"),
+    ("decode", "201", "down", "file"), ("capture", "file"), ("campaigns", "file", "file", "file"),
+    ("help",), ("--help",), ("update",),
 )
 
 

@@ -1,12 +1,12 @@
-"""Numbers, payloads and lines that are drawn at random, most of them on the borders of what is allowed.
+"""Numbers, commands, payloads and images that are drawn at random, most of them on the borders of what is allowed.
 
-These modules, `drawn_files.py` and `drawn_campaigns.py` are no part of the definition: they make cases for
-`tests/against_model`. Whoever draws hands in a `random.Random`, so that a seed says all.
+A line can be misspelled here too: the rest of what makes a script or a file stands in `campaigns.py` and `files.py`.
 """
+import hashlib
 from dataclasses import dataclass, field
 
-from .commands import TABLE, Block, Command, GroupList, Number, Packed, Rest, Where, part_bytes
-from .words import MAX_PAYLOAD
+from model.commands import TABLE, Block, Command, GroupList, Number, Packed, Rest, Where, part_bytes
+from model.words import MAX_PAYLOAD
 
 
 @dataclass(frozen=True)
@@ -39,6 +39,11 @@ def beyond(rng, first, last):
 def some_bytes(rng, size):
     """So many bytes."""
     return rng.randbytes(size)
+
+
+def random_word(rng, percent=25):
+    """WORD, or none."""
+    return f" {border(rng, 0, 2**32 - 1)}" if chance(rng, percent) else ""
 
 
 # ---- commands
@@ -114,12 +119,10 @@ def payload(rng, port, direction):
 
 def image_file(rng, lowest, highest, firmware, length, form):
     """An image file of a format, with a body of so many bytes."""
-    from hashlib import sha256
-
     body = some_bytes(rng, length)
     numbers = (lowest, firmware, length) if form == 1 else (lowest, highest, firmware, length)
     head = b"FUIM" + bytes([form]) + b"".join(n.to_bytes(4, "little") for n in numbers)
-    return head + sha256(body).digest() + body
+    return head + hashlib.sha256(body).digest() + body
 
 
 def damaged(rng, image):
@@ -156,5 +159,5 @@ def misspelled(rng, line):
     elif how == 7:
         return line + "x" * (rng.choice((600, 601)) - len(line))
     else:
-        words[0] = rng.choice(("fuota", "image", "device", "at", "end", "raw", "rawair", "air", "down", "up", "ask", "e"))
+        words[0] = rng.choice(("fuota", "image", "device", "at", "end", "raw", "rawair", "air", "down", "up", "e"))
     return " ".join(words)
