@@ -10,34 +10,63 @@ from .values import Case, chance, damaged, random_word
 from .wrong_lines import any_payload, plan_line, write_many, wrong_line
 
 
+def image_line(draft, letter, index):
+    """How the image of a campaign is cut."""
+    size, parity = frag_size(draft.rng, len(draft.sides[letter].server.image)), draft.rng.choice((0, 1, 4, 20, 512))
+    return draft.head("image", letter) + f" {size} {parity}" + (f" {index}" if letter else "")
 
-def write_plan(draft):
-    """All lines before the first event."""
-    rng, letters = draft.rng, list(draft.sides)
-    plan_line(draft, "fuota 2" if len(letters) == 2 else "fuota 1")
-    indexes, idents = rng.sample(range(4), 2), rng.sample(range(4), 2)
-    for k, letter in enumerate(letters):
+
+def clashing_group(draft, ident):
+    """A group of b with the id or the address of a's, or with neither."""
+    rng, group = draft.rng, draft.sides["a"].server.plan.group
+    words = group_line(rng, "b", rng.choice((ident, rng.randint(0, 3)))).split(" ")
+    if group is not None and chance(rng, 50):
+        words[3] = f"{group.addr:08x}"
+    return " ".join(words)
+
+
+def write_sides(draft):
+    """The image of each campaign, and of most a group with its window."""
+    rng, indexes, idents = draft.rng, draft.rng.sample(range(4), 2), draft.rng.sample(range(4), 2)
+    for k, letter in enumerate(draft.sides):
         wrong_line(draft, 2)
-        size = frag_size(rng, len(draft.images[k]))
-        parity = rng.choice((0, 1, 4, 20, 512))
-        plan_line(draft, draft.head("image", letter) + f" {size} {parity}" + (f" {indexes[k]}" if letter else ""))
+        if letter == "b" and chance(rng, 4):
+            draft.write_wrong(image_line(draft, letter, indexes[0]))
+        plan_line(draft, image_line(draft, letter, indexes[k]))
         if chance(rng, 60):
+            if letter == "b" and chance(rng, 6):
+                draft.write_wrong(clashing_group(draft, idents[0]))
             plan_line(draft, group_line(rng, letter, idents[k]))
             wrong_line(draft, 2)
             plan_line(draft, window_line(rng, letter))
-    wanted = letters + [rng.choice(letters) for _ in range(rng.choice((0, 0, 1, 2, 4)))]
-    wanted += [rng.choice(letters)] * 4 if chance(rng, 3) else []
+
+
+def write_devices(draft):
+    """At least one device of each campaign, in a few scripts more with a flash than there may be."""
+    rng, letters = draft.rng, list(draft.sides)
+    many = chance(rng, 3)
+    wanted = letters + [rng.choice(letters) for _ in range(5 if many else rng.choice((0, 0, 1, 2, 4)))]
     rng.shuffle(wanted)
-    flash = len(wanted) > 6
     for letter in wanted:
         wrong_line(draft, 2)
         if draft.is_over:
             return
-        line = device_line(draft, letter, len(draft.ids) + 1)
-        if flash:
-            draft.write_wrong(line.removesuffix(" flash") + " flash")
+        before, line = len(draft.ids), device_line(draft, letter, len(draft.ids) + 1)
+        plain = line.removesuffix(" flash")
+        if many:
+            draft.write_wrong(plain + " flash")
         else:
             plan_line(draft, line)
+        if len(draft.ids) == before:
+            draft.write(plain)
+
+
+def write_plan(draft):
+    """All lines before the first event."""
+    plan_line(draft, "fuota 2" if len(draft.sides) == 2 else "fuota 1")
+    write_sides(draft)
+    if not draft.is_over:
+        write_devices(draft)
 
 
 def write_delivery(draft, letter, number, device, percent=25):
@@ -102,9 +131,10 @@ def write_status(draft):
         deliver_last(draft, letter, 10, percent=80)
     side = draft.sides[letter]
     if side.uplinks and side.uplinks[-1].uplink.due > draft.time:
-        draft.write(f"at {side.uplinks[-1].uplink.due - rng.choice((0, 0, 1))}")
+        early = chance(rng, 30)
+        draft.write(f"at {side.uplinks[-1].uplink.due - int(early)}")
         up = f"up {letter}{len(side.uplinks)}"
-        if chance(rng, 20):
+        if early:
             draft.write_wrong(up)
         else:
             draft.write(up)
@@ -156,7 +186,7 @@ def write_round(draft, hostile):
     rng = draft.rng
     if draft.is_over:
         return
-    makers = [write_turn] * 6 + [write_fragments] * 3 + [write_time] * 3 + [write_status] * 2 + [write_old] * 2
+    makers = [write_turn] * 6 + [write_fragments] * 3 + [write_time] * 3 + [write_status] * 3 + [write_old] * 2
     makers += [write_event, write_clock, write_spent]
     if hostile:
         makers += [write_raw] * 9 + [write_raw_air] * 4 + [write_stranger, write_image]
@@ -178,7 +208,7 @@ def write_events(draft):
         for _ in range(6 * len(draft.ids)):
             write_turn(draft)
     wrong_line(draft, 20)
-    if len(draft.sides) == 2 and chance(rng, 25):
+    if len(draft.sides) == 2 and chance(rng, 75):
         draft.write_wrong(any_payload(draft))
     if chance(rng, 0.4):
         write_many(draft)
@@ -201,18 +231,25 @@ def given(rng, image):
     return damaged(rng, image) if chance(rng, 2) else image
 
 
+def campaign_files(draft):
+    """The files of a campaign."""
+    script = script_of(draft)
+    return {"image": given(draft.rng, draft.images[0]), "script": script}
+
+
 def campaign_case(rng):
     """A campaign of one image."""
-    image = image_for(rng)
-    files = {"image": given(rng, image), "script": script_of(Draft(rng, [image]))}
-    return Case("campaign", ("campaign", "image", "script"), files)
+    return Case("campaign", ("campaign", "image", "script"), campaign_files(Draft(rng, [image_for(rng)])))
 
 
 def recover_case(rng):
-    """What a device of a campaign recovers."""
-    case = campaign_case(rng)
-    number = rng.choice(("1", "1", "1", "2", "3", "64"))
-    return Case("recover", ("recover", "image", "script", number), case.files)
+    """What a device of a campaign recovers, often one that has its file."""
+    draft = Draft(rng, [image_for(rng)])
+    files = campaign_files(draft)
+    first = [(number, device.sessions[0]) for number, device in enumerate(draft.world.devices, 1)]
+    whole = [number for number, session in first if session is not None and session.is_complete()]
+    number = rng.choice(whole) if whole and chance(rng, 80) else rng.choice((1, 1, 1, 2, 3, 64))
+    return Case("recover", ("recover", "image", "script", str(number)), files)
 
 
 def campaigns_case(rng):

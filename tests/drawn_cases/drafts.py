@@ -6,6 +6,7 @@ from model.pair import Pair, pair_form_of
 from model.script import form_of
 from model.world import World
 
+from .values import chance
 
 
 class Draft:
@@ -15,6 +16,7 @@ class Draft:
         self.rng = rng
         self.images = images
         self.lines = []
+        self.careful = chance(rng, 50)
         self.refused = False
         self.ids = []
         self.begin()
@@ -49,8 +51,8 @@ class Draft:
         return True
 
     def write_wrong(self, line):
-        """A line that may be wrong: the script goes on only where it is not."""
-        if not self.refused and not self.write(line):
+        """A line that may be wrong: the script goes on only where it is not. A careful draft has none."""
+        if not self.careful and not self.refused and not self.write(line):
             self.lines.append(line)
             self.refused = True
 

@@ -168,7 +168,7 @@ def object_line(rng, members):
 
 def odd_members(rng, members):
     """Members with one more, one less, one twice, or an odd value."""
-    members, how = list(members), rng.randint(0, 5)
+    members, how = list(members), rng.choice((0, 0, 0, 0, 1, 1, 2, 3, 4, 5))
     if how == 0:
         members.insert(rng.randint(0, len(members)), ("x", rng.choice(ODD_VALUES)))
     elif how == 1:
@@ -210,7 +210,7 @@ def capture_case(rng):
         row = ROWS["DataFragment"]
         data = loose_spelling(rng, row, command_of(rng, row))
         members = [("port", "201"), ("dir", '"down"'), ("hex", json.dumps(data.hex()))]
-        lines = [object_line(rng, odd_members(rng, odd_members(rng, members)))]
+        lines = [object_line(rng, odd_members(rng, odd_members(rng, members))) for _ in range(4)]
     else:
         lines = [entry_line(rng, 201, DOWN, data) for data in mixed_payloads(rng)]
         for _ in range(rng.randint(0, 4)):

@@ -6,7 +6,6 @@ from model.windows import BEACON, FIRST_SLOT_MS, SLOT_MS, beacon_at, ping_offset
 
 from .values import chance
 
-
 ROUND_MS = 1000 * 2**32
 UPLINK_DELAYS = (0, 999, 1000, 1099, 1100, 1999, 2000, 2099, 2100)
 

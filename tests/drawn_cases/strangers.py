@@ -11,7 +11,6 @@ from .values import (
 )
 
 
-
 def strange_fragment(rng, device, server):
     """A fragment of a session with a number on a border or data that is another's."""
     living = [session for session in device.sessions if session is not None]

@@ -23,7 +23,9 @@ def any_payload(draft):
     sent = draft.sides[letter].sent
     unicast = [number for number, payload in enumerate(sent, 1) if payload.receiver is not None]
     number = rng.choice(unicast) if unicast and chance(rng, 60) else rng.randint(0, len(sent) + 1)
-    return f"{rng.choice(('down', 'air'))} {letter}{number} {rng.randint(1, max(1, len(draft.ids)))}"
+    others = [device for device, (owner, _) in enumerate(draft.ids, 1) if owner != letter]
+    device = rng.choice(others) if others and chance(rng, 50) else rng.randint(1, max(1, len(draft.ids)))
+    return f"{rng.choice(('down', 'down', 'air'))} {letter}{number} {device}"
 
 
 def candidates(draft):
