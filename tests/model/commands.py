@@ -126,10 +126,10 @@ SESSION_ANSWER = (packed(1, ("errors", 4, 2), ("id", 1, 0)), Where("start", 3, "
 ALL, G, F, C, M = (200, 201, 202, 203), (GROUPS,), (FRAGMENTS,), (CLOCK,), (FIRMWARE,)
 
 TABLE = (
-    # every package: TS003-1.0.0 3.1, TS004-1.0.0 3.1, TS005-1.0.0 3.1, TS006-1.0.0 3.1
+    # every package: TS003, TS004, TS005 and TS006, 1.0.0, PackageVersionReq
     down(ALL, 0x00, "PackageVersionReq"),
     up(ALL, 0x00, "PackageVersionAns", number(1, "id"), number(1, "version")),
-    # multicast setup: TS005-1.0.0 3.2 to 3.6
+    # remote multicast setup: TS005-1.0.0, the tables of its commands
     down(G, 0x01, "McGroupStatusReq", packed(1, ("mask", 3, 0))),
     up(G, 0x01, "McGroupStatusAns", packed(1, ("total", 6, 4), ("mask", 3, 0)), GroupList("groups", "mask")),
     down(G, 0x02, "McGroupSetupReq", packed(1, ("id", 1, 0)), number(4, "addr"), Block("key", KEY_SIZE),
@@ -143,7 +143,7 @@ TABLE = (
     down(G, 0x05, "McClassBSessionReq", packed(1, ("id", 1, 0)), number(4, "time"),
          packed(1, ("periodicity", 6, 4), ("timeout", 3, 0)), number(3, "freq"), number(1, "dr")),
     up(G, 0x05, "McClassBSessionAns", *SESSION_ANSWER),
-    # fragmented data blocks: TS004-1.0.0 3.2 to 3.5
+    # fragmented data blocks: TS004-1.0.0
     down(F, 0x01, "FragSessionStatusReq", packed(1, ("index", 2, 1), ("all", 0, 0))),
     up(F, 0x01, "FragSessionStatusAns", packed(2, ("index", 15, 14), ("received", 13, 0)), number(1, "missing"),
        packed(1, ("norows", 0, 0))),
@@ -154,13 +154,13 @@ TABLE = (
     down(F, 0x03, "FragSessionDeleteReq", packed(1, ("index", 1, 0))),
     up(F, 0x03, "FragSessionDeleteAns", packed(1, ("missing", 2, 2), ("index", 1, 0))),
     down(F, 0x08, "DataFragment", packed(2, ("index", 15, 14), ("n", 13, 0)), Rest("bytes")),
-    # clock synchronization: TS003-1.0.0 3.2 to 3.4
+    # clock synchronization: TS003-1.0.0
     up(C, 0x01, "AppTimeReq", number(4, "time"), packed(1, ("required", 4, 4), ("token", 3, 0))),
     down(C, 0x01, "AppTimeAns", Number("correction", 4, signed=True), packed(1, ("token", 3, 0))),
     down(C, 0x02, "DeviceAppTimePeriodicityReq", packed(1, ("period", 3, 0))),
     up(C, 0x02, "DeviceAppTimePeriodicityAns", packed(1, ("unsupported", 0, 0)), number(4, "time")),
     down(C, 0x03, "ForceDeviceResyncReq", packed(1, ("count", 2, 0))),
-    # firmware management: TS006-1.0.0 3.2 to 3.6
+    # firmware management: TS006-1.0.0
     down(M, 0x01, "DevVersionReq"),
     up(M, 0x01, "DevVersionAns", number(4, "fw"), number(4, "hw")),
     down(M, 0x02, "DevRebootTimeReq", number(4, "time")),

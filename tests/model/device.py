@@ -138,7 +138,7 @@ class Device:
             self.receive(t, Downlink(held.port, held.payload, group.addr, held.count), word, mark)
 
     def wake(self, t):
-        """The device asks for the time by itself, where the outbox has room (TS003-1.0.0 3.2)."""
+        """The device asks for the time by itself, where the outbox has room (TS003-1.0.0, AppTimeReq)."""
         self.reboot_where_due(t)
         if len(self.outbox) < OUTBOX:
             self.send(t, CLOCK, self.time_request(t, 1))
@@ -196,23 +196,28 @@ class Device:
             getattr(self, f"on_{command.name}")(here, **command.fields)
 
     def on_PackageVersionReq(self, here):
+        """The package's identifier, and version 1."""
         self.answer(here, "PackageVersionAns", id=IDENTIFIERS[here.port], version=1)
 
     # TS003-1.0.0
 
     def on_AppTimeAns(self, here, correction, token):
+        """The correction is taken with the clock's token alone."""
         self.clock.take_answer(correction, token)
 
     def on_DeviceAppTimePeriodicityReq(self, here, period):
+        """NotSupported, and the device's time (that it is not supported is this project's profile)."""
         self.answer(here, "DeviceAppTimePeriodicityAns", unsupported=1, time=self.clock.seconds(here.t))
 
     def on_ForceDeviceResyncReq(self, here, count):
+        """So many AppTimeReq at once, all alike."""
         for _ in range(count):
             self.send(here.t, here.port, self.time_request(here.t, 0))
 
     # TS004-1.0.0
 
     def on_FragSessionSetupReq(self, here, **fields):
+        """Without a refusal bit the session of the index is kept or replaced, with one nothing changes."""
         setup = Setup(**fields)
         limits = Limits(self.config.rows, self.config.descriptor, self.config.flash)
         bits = refusal_bits(limits, setup)
@@ -221,11 +226,13 @@ class Device:
         self.answer(here, "FragSessionSetupAns", index=setup.index, bits=bits)
 
     def on_FragSessionDeleteReq(self, here, index):
+        """The session of the index is none."""
         missing = self.sessions[index] is None
         self.sessions[index] = None
         self.answer(here, "FragSessionDeleteAns", missing=missing, index=index)
 
     def on_FragSessionStatusReq(self, here, index, all):
+        """At once by unicast, and by a group so many seconds later as the random word says."""
         status = status_of(self.sessions[index], here.group, all)
         if status is not None:
             delay = self.sessions[index].setup.delay
@@ -233,6 +240,7 @@ class Device:
             self.send(here.t + 1000 * seconds, here.port, make("FragSessionStatusAns", **status))
 
     def on_DataFragment(self, here, index, n, bytes):
+        """A session hears a fragment; the one that makes its file whole brings it to the next slot."""
         session = self.sessions[index]
         if session is None or session.drops(here.group, n, bytes):
             self.counts.dropped += 1
@@ -245,16 +253,19 @@ class Device:
     # TS005-1.0.0
 
     def on_McGroupStatusReq(self, here, mask):
+        """How many groups there are, and those that the mask asks for."""
         total = sum(group is not None for group in self.groups)
         there = [(i, g.addr) for i, g in enumerate(self.groups) if g is not None and mask >> i & 1]
         answered = sum(1 << i for i, _ in there)
         self.answer(here, "McGroupStatusAns", total=total, mask=answered, groups=there)
 
     def on_McGroupSetupReq(self, here, id, addr, key, min, max):
+        """The group takes the place of what the id had."""
         self.groups[id] = Group(addr, unwrapped(self.config.key, self.config.is_appkey, key), min, max)
         self.answer(here, "McGroupSetupAns", error=0, id=id)
 
     def on_McGroupDeleteReq(self, here, id):
+        """The group is none, and a class session of it ends."""
         undefined = self.groups[id] is None
         self.groups[id] = None
         if self.class_session is not None and self.class_session.ident == id:
@@ -262,10 +273,12 @@ class Device:
         self.answer(here, "McGroupDeleteAns", undefined=undefined, id=id)
 
     def on_McClassCSessionReq(self, here, id, time, timeout, freq, dr):
+        """A session from its time on."""
         session = ClassSession(id, time, timeout, None)
         self.begin_session(here, "McClassCSessionAns", session, time, freq, dr)
 
     def on_McClassBSessionReq(self, here, id, time, periodicity, timeout, freq, dr):
+        """A session from the beacon before its time on."""
         session = ClassSession(id, time, timeout, periodicity)
         self.begin_session(here, "McClassBSessionAns", session, beacon_at(time), freq, dr)
 
@@ -280,21 +293,26 @@ class Device:
     # TS006-1.0.0
 
     def on_DevVersionReq(self, here):
+        """What runs, and on which hardware."""
         self.answer(here, "DevVersionAns", fw=self.slots.running, hw=self.config.hardware)
 
     def on_DevRebootTimeReq(self, here, time):
+        """A reboot at a time."""
         self.set_reboot(here.t, time, 2**32 - 1, time)
         self.answer(here, "DevRebootTimeAns", time=time)
 
     def on_DevRebootCountdownReq(self, here, count):
+        """A reboot in so many seconds."""
         self.set_reboot(here.t, count, 2**24 - 1, (self.clock.seconds(here.t) + count) % ROUND)
         self.answer(here, "DevRebootCountdownAns", count=count)
 
     def on_DevUpgradeImageReq(self, here):
+        """What is in the next slot, and the version of a valid image."""
         state, version = self.slots.next
         self.answer(here, "DevUpgradeImageAns", status=UPGRADE_STATUS[state], next=version)
 
     def on_DevDeleteImageReq(self, here, version):
+        """The next slot is none, where it is valid and has this version (the bits are this project's profile)."""
         self.answer(here, "DevDeleteImageAns", bits=self.slots.delete(version))
 
     # ---- reboots, in seconds of its clock

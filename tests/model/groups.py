@@ -12,7 +12,7 @@ MIN_FRAME = 13
 MAX_FRAME = 255
 
 
-# ---- keys (TS005-1.0.0 4)
+# ---- keys (TS005-1.0.0, multicast security)
 
 
 def root_key(key, is_appkey):

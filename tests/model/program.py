@@ -80,10 +80,12 @@ def ranged(word, first, last):
 
 
 def on_campaign(image, script):
+    """The report of a campaign."""
     return report_of(play(image_source(image), script_source(script)))
 
 
 def on_recover(image, script, device):
+    """The file of a device's session 0, or how the session stands."""
     number = ranged(device, 1, MAX_DEVICES)
     world = play(image_source(image), script_source(script))
     found = numbered(world.devices, number)
@@ -94,10 +96,12 @@ def on_recover(image, script, device):
 
 
 def on_replay(file):
+    """The text of a file of payloads, replayed."""
     return replay(script_source(file))
 
 
 def on_decode(port, direction, file):
+    """The text of a file of payloads, decoded."""
     number = ranged(port, FIRST_PORT, LAST_PORT)
     if direction not in (DOWN, UP):
         raise usage()
@@ -105,14 +109,17 @@ def on_decode(port, direction, file):
 
 
 def on_generate(seed):
+    """The summary of the campaign of a seed."""
     return generate(ranged(seed, 0, 2**32 - 1))
 
 
 def on_capture(file):
+    """The text of a capture."""
     return capture(script_source(file))
 
 
 def on_campaigns(image_a, image_b, script):
+    """The report of two campaigns."""
     return pair_report_of(play_pair(image_source(image_a), image_source(image_b), script_source(script)))
 
 
@@ -130,13 +137,13 @@ FORMS = {
 
 def words_of_form(words):
     """The words after the form: the first `--` is dropped, and only those after it may begin with a dash."""
-    front, behind = words, []
+    front, back = words, []
     if "--" in words:
         cut = words.index("--")
-        front, behind = words[:cut], words[cut + 1:]
+        front, back = words[:cut], words[cut + 1:]
     if any(word.startswith("-") and word != "-" for word in front):
         raise usage()
-    return front + behind
+    return front + back
 
 
 def is_text(word):

@@ -24,24 +24,24 @@ def counts_line(counts):
     return f"counts deaf {counts.deaf} refused {counts.refused} full {counts.full} dropped {counts.dropped}\n"
 
 
-def session_line(index, session, verdict, behind):
-    """session I received N missing K STATE; behind a whole file's line stands more."""
+def session_line(index, session, verdict, last_word):
+    """session I received N missing K STATE; of a whole file one word more may stand after it."""
     state = verdict.state
     if state != RECEIVING:
         state += f" at {verdict.mark}"
     if verdict.state == COMPLETE:
-        state += behind
+        state += last_word
     return f"session {index} received {session.received} missing {verdict.missing} {state}\n"
 
 
-def session_lines(sessions, behind, below):
-    """The lines of all sessions; of a whole file `behind` and `below` say what stands after its line and under it."""
+def session_lines(sessions, last_word, line_below):
+    """The lines of all sessions; of a whole file two functions say which word ends its line, and which line follows."""
     text = ""
     for index, session in enumerate(sessions):
         if session is not None:
             verdict = session.verdict()
-            text += session_line(index, session, verdict, behind(verdict.file))
-            text += below(verdict.file) if verdict.state == COMPLETE else ""
+            text += session_line(index, session, verdict, last_word(verdict.file))
+            text += line_below(verdict.file) if verdict.state == COMPLETE else ""
     return text
 
 

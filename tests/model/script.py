@@ -47,18 +47,22 @@ def needed(value):
 
 
 def decimal(word):
+    """A decimal."""
     return needed(decimal_of(word))
 
 
 def address(word):
+    """A number of 8 hex digits."""
     return needed(hex_number(word))
 
 
 def key(word):
+    """A key of 32 hex digits."""
     return needed(sized_hex(word, 16))
 
 
 def payload(word):
+    """Bytes in hex, or `-`."""
     return needed(payload_word(word))
 
 
@@ -75,7 +79,7 @@ def fields_of(words, *kinds):
 
 
 def with_word(words, *kinds):
-    """The same with WORD behind them, or without, which is 0."""
+    """The same with WORD after them, or without, which is 0."""
     if len(words) == len(kinds):
         return {**fields_of(words, *kinds), "word": 0}
     return fields_of(words, *kinds, ("word", decimal))
@@ -85,15 +89,18 @@ def with_word(words, *kinds):
 
 
 def image_words(words):
+    """FRAGSIZE PARITY, for a session of index 0."""
     return {**fields_of(words, ("fragsize", decimal), ("parity", decimal)), "index": 0}
 
 
 def group_words(words):
+    """ADDR KEY MIN MAX, of a group of id 0."""
     kinds = ("addr", address), ("key", key), ("min", decimal), ("max", decimal)
     return {**fields_of(words, *kinds), "id": 0}
 
 
 def window_words(words):
+    """c START TIMEOUT FREQ DR, or b START PERIODICITY TIMEOUT FREQ DR."""
     expect(words)
     rest = ("timeout", decimal), ("freq", decimal), ("dr", decimal)
     if words[0] == "c":
@@ -103,6 +110,7 @@ def window_words(words):
 
 
 def device_class(word):
+    """CLASS."""
     expect(word in ("a", "c"))
     return word
 
@@ -122,18 +130,22 @@ def device_words(words):
 
 
 def down_words(words):
+    """S D [WORD]."""
     return with_word(words, ("number", decimal), ("device", decimal))
 
 
 def raw_words(words):
+    """D PORT HEX [WORD]."""
     return with_word(words, ("device", decimal), ("port", decimal), ("payload", payload))
 
 
 def rawair_words(words):
+    """D HEX [WORD]."""
     return with_word(words, ("device", decimal), ("payload", payload))
 
 
 def header_words(number):
+    """The number of the form alone."""
     def read(words):
         expect(words == [number])
         return {}
@@ -181,11 +193,13 @@ def form_of(line):
 
 
 def pair_image_words(words):
+    """FRAGSIZE PARITY INDEX."""
     expect(len(words) == 3)
     return {**image_words(words[:2]), "index": decimal(words[2])}
 
 
 def pair_group_words(words):
+    """ID ADDR KEY MIN MAX."""
     expect(len(words) == 5)
     return {**group_words(words[1:]), "id": decimal(words[0])}
 

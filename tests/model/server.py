@@ -96,15 +96,18 @@ class Server:
         return None if request is None else downlink_of(request(number))
 
     def ask_version(self, number):
+        """What runs, and on which hardware?"""
         return make("DevVersionReq")
 
     def ask_group(self, number):
+        """The group, its key wrapped for the device."""
         key, is_appkey = self.plan.keys[number - 1]
         group = self.plan.group
         block = wrapped(key, is_appkey, group.key)
         return make("McGroupSetupReq", id=self.plan.ident, addr=group.addr, key=block, min=group.min, max=group.max)
 
     def ask_fragments(self, number):
+        """The session, with the image's firmware version as what the file is."""
         return make(
             "FragSessionSetupReq",
             index=self.plan.index,
@@ -118,6 +121,7 @@ class Server:
         )
 
     def ask_window(self, number):
+        """The class session of the group."""
         window = self.plan.window
         fields = dict(
             id=self.plan.ident, time=window.start, timeout=window.timeout, freq=window.freq, dr=window.dr
@@ -127,15 +131,19 @@ class Server:
         return make("McClassBSessionReq", periodicity=window.periodicity, **fields)
 
     def ask_status(self, number):
+        """How many fragments are missing?"""
         return make("FragSessionStatusReq", index=self.plan.index, all=1)
 
     def ask_image(self, number):
+        """What is in the next slot?"""
         return make("DevUpgradeImageReq")
 
     def ask_reboot(self, number):
+        """A reboot now."""
         return make("DevRebootCountdownReq", count=0)
 
     def ask_check(self, number):
+        """What runs now?"""
         return make("DevVersionReq")
 
     # ---- to all
@@ -189,23 +197,28 @@ class Server:
         return stage if rule is None else rule(self, stage, command)
 
     def after_version(self, stage, answer):
+        """1 is hardware that the image is not for; without a group its stages are left out."""
         moved = at("group" if self.plan.group else "fragments")
         return unless_refused("version", 0 if self.head.is_for(answer["hw"]) else 1, moved)
 
     def after_group(self, stage, answer):
+        """4 is IDerror."""
         if answer["id"] != self.plan.ident:
             return stage
         return unless_refused("group", 4 * answer["error"], at("fragments"))
 
     def after_fragments(self, stage, answer):
+        """The refusal bits of the session."""
         if answer["index"] != self.plan.index:
             return stage
         return unless_refused("fragments", answer["bits"], at("window" if self.plan.group else "status"))
 
     def after_window_c(self, stage, answer):
+        """The answer of the plan's own class alone."""
         return self.after_window(stage, answer) if self.plan.window.periodicity is None else stage
 
     def after_window_b(self, stage, answer):
+        """The answer of the plan's own class alone."""
         return stage if self.plan.window.periodicity is None else self.after_window(stage, answer)
 
     def after_window(self, stage, answer):
@@ -215,20 +228,24 @@ class Server:
         return unless_refused("window", answer["errors"] << 2, at("status"))
 
     def after_status(self, stage, answer):
+        """1 is too little memory; with fragments missing the stage stays."""
         if answer["index"] != self.plan.index:
             return stage
         return unless_refused("status", answer["norows"], at("status" if answer["missing"] else "image"))
 
     def after_image(self, stage, answer):
+        """1 corrupt, 2 incompatible, 3 another version; with none in the slot the stage stays."""
         if answer["status"] == 3:
             right = answer["next"] == self.head.firmware
             return at("reboot") if right else Stage(REFUSED, "image", 3)
         return unless_refused("image", answer["status"], stage)
 
     def after_reboot(self, stage, answer):
+        """Whatever the count, it is checked what runs."""
         return at("check")
 
     def after_check(self, stage, answer):
+        """The image's firmware version is the end."""
         return Stage(UPDATED) if answer["fw"] == self.head.firmware else stage
 
     RULES = {
@@ -250,7 +267,7 @@ def downlink_of(command, addr=None, count=None):
 
 
 def time_answer(t, command):
-    """AppTimeAns to an AppTimeReq that asks for one, or whose time is wrong (TS003-1.0.0 3.2)."""
+    """AppTimeAns to an AppTimeReq that asks for one, or whose time is wrong (TS003-1.0.0)."""
     if command.name != "AppTimeReq":
         return None
     correction = correction_of(t // 1000, command["time"])

@@ -24,7 +24,7 @@ RECEIVING, COMPLETE, NO_ROWS, CONFLICT = "receiving", "complete", "norows", "con
 
 
 class Setup(NamedTuple):
-    """The fields of FragSessionSetupReq (TS004-1.0.0 3.3)."""
+    """The fields of FragSessionSetupReq (TS004-1.0.0)."""
 
     index: int
     mask: int
@@ -96,8 +96,8 @@ def equations_of(setup, heard):
     return [line_of(f.number, setup.nbfrag) << width | int.from_bytes(f.data, "big") for f in heard]
 
 
-def pieces_came(setup, heard):
-    """How many different pieces came uncoded, by each fragment."""
+def direct_counts(setup, heard):
+    """How many different pieces came uncoded: by the first fragment, by the first two, and so on."""
     seen, counts = set(), []
     for f in heard:
         if f.number <= setup.nbfrag:
@@ -123,7 +123,7 @@ def verdict_of(setup, rows, heard):
     equations = equations_of(setup, heard)
     gains = ranks_of([line_of(f.number, setup.nbfrag) for f in heard])
     facts = ranks_of(equations)
-    direct = pieces_came(setup, heard)
+    direct = direct_counts(setup, heard)
     before = 0
     for k, gain in enumerate(gains):
         mark = heard[k].mark
@@ -170,7 +170,7 @@ def is_too_large(limits, setup):
 
 
 def refusal_bits(limits, setup):
-    """All refusal bits of FragSessionSetupAns together (TS004-1.0.0 3.3)."""
+    """All refusal bits of FragSessionSetupAns together (TS004-1.0.0)."""
     wrong_coding = setup.algo != 0 or setup.nbfrag == 0 or setup.fragsize == 0 or setup.padding >= setup.fragsize
     no_index = setup.index >= SESSIONS
     other = limits.descriptor is not None and setup.descriptor != limits.descriptor
@@ -234,7 +234,7 @@ def after_setup(limits, session, setup):
 
 
 def status_of(session, group, everyone):
-    """The fields of FragSessionStatusAns, or None where the session does not answer (TS004-1.0.0 3.2)."""
+    """The fields of FragSessionStatusAns, or None where the session does not answer (TS004-1.0.0)."""
     if session is None or session.excludes(group):
         return None
     verdict = session.verdict()

@@ -1,4 +1,4 @@
-"""When a device hears (LoRaWAN 1.0, receive windows and class B; TS005-1.0.0 3.5 and 3.6, class sessions).
+"""When a device hears (LoRaWAN 1.0, receive windows and class B; TS005-1.0.0, class sessions).
 
 Class A windows are in ms of true time, those of class sessions in ms of the device's clock.
 """
@@ -59,7 +59,7 @@ def is_open_b(start, periodicity, timeout, device_ms, addr):
 
 
 def session_errors(has_group, freq, dr):
-    """The error bits of a class session's answer: 1 data rate, 2 frequency, 4 no such group (TS005-1.0.0 3.5)."""
+    """The error bits of a class session's answer: 1 data rate, 2 frequency, 4 no such group (TS005-1.0.0)."""
     return 1 * (dr > HIGHEST_DR) + 2 * (not LOWEST_FREQ <= freq <= HIGHEST_FREQ) + 4 * (not has_group)
 
 

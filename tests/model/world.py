@@ -142,23 +142,28 @@ class World:
         self.section = "events"
 
     def on_fuota(self, form, line):
+        """The first line."""
         self.section = "image"
 
     def on_image(self, form, line):
+        """How the image is cut."""
         plan = self.server.plan
         plan.fragsize, plan.parity, plan.index = form["fragsize"], form["parity"], form["index"]
         self.section = "group"
 
     def on_group(self, form, line):
+        """The plan's group."""
         self.server.plan.ident = form["id"]
         self.server.plan.group = Group(form["addr"], form["key"], form["min"], form["max"])
         self.section = "window"
 
     def on_window(self, form, line):
+        """The class session of the group."""
         self.server.plan.window = Window(**form.fields)
         self.section = "device"
 
     def on_device(self, form, line):
+        """One device more."""
         config = Config(
             is_class_a=form["class"] == "a",
             hardware=form["hw"],
@@ -177,44 +182,56 @@ class World:
         self.section = "devices"
 
     def on_at(self, form, line):
+        """The time now."""
         self.time = form["time"]
 
     def on_wake(self, form, line):
+        """A device asks for the time."""
         self.happen(form["device"], lambda device: device.wake(self.time))
 
     def on_migrate(self, form, line):
+        """A device knows both image formats."""
         self.happen(form["device"], lambda device: device.migrate())
 
     def on_power(self, form, line):
         """All that a device holds in flash is there again: nothing is another than before."""
 
     def on_ask(self, form, line):
+        """The request of a device's stage."""
         self.send(form["device"], self.server.request_for(form["device"]))
 
     def on_frag(self, form, line):
+        """The next fragment."""
         self.send(None, self.server.send_fragment())
 
     def on_status(self, form, line):
+        """A status request to all."""
         self.send(None, self.server.send_status())
 
     def on_down(self, form, line):
+        """A sent payload reaches a device."""
         self.reach(form["device"], numbered(self.sent, form["number"]).down, form["word"], line)
 
     def on_air(self, form, line):
+        """A sent payload reaches the radio of a device as its frame."""
         self.hear(form["device"], self.server.frame(numbered(self.sent, form["number"]).down), form["word"], line)
 
     def on_raw(self, form, line):
+        """Anybody's payload reaches a device."""
         self.reach(form["device"], Downlink(form["port"], form["payload"]), form["word"], line)
 
     def on_rawair(self, form, line):
+        """Anybody's bytes reach the radio of a device."""
         self.hear(form["device"], form["payload"], form["word"], line)
 
     def on_up(self, form, line):
+        """An uplink reaches the server, whose answer goes to its device."""
         made = numbered(self.uplinks, form["number"])
         answer = self.server.uplink(made.device, made.uplink.port, made.uplink.payload, self.time)
         self.send(made.device, answer)
 
     def on_end(self, form, line):
+        """The last line."""
         self.section = "ended"
 
     def send(self, receiver, down):
