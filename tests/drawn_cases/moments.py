@@ -71,7 +71,10 @@ def write_time(draft):
 def write_open(draft, letter):
     """The time at which a device of a campaign hears what goes to all, where there is one."""
     rng = draft.rng
-    number = rng.choice([k for k, (other, _) in enumerate(draft.ids, 1) if other == letter])
+    numbers = [k for k, (other, _) in enumerate(draft.ids, 1) if other == letter]
+    if not numbers:
+        return
+    number = rng.choice(numbers)
     device, _ = draft.device_of(number)
     if draft.sides[letter].server.plan.group is not None:
         beside = rng.choice((-1, 1)) if chance(rng, 25) else 0
