@@ -44,7 +44,6 @@ fn words_of(keys: &[[u32; 4]; 11], column: usize) -> [u32; 11]
 }
 
 /// The four words one further on, where word `i` is the last.
-#[inline(always)]
 fn next_words(words: &[u32; 4], i: usize) -> [u32; 4]
     requires low { 4 ≤ i }
     requires high { i < 44 }
@@ -54,7 +53,6 @@ fn next_words(words: &[u32; 4], i: usize) -> [u32; 4]
 }
 
 /// What word `i` is the sum of word `i - 4` with.
-#[inline(always)]
 fn added(words: &[u32; 4], i: usize) -> u32
     requires low { 4 ≤ i }
     requires high { i < 44 }

@@ -8,7 +8,6 @@ ghost use Rattle.aes_block.specs.CipherInside.{byte_of, state_of_words, mixed_ro
 use crate::tables::{SPREAD, SUB};
 use crate::words::{byte, word};
 
-#[inline(always)]
 #[tactic(auto, using(crate::proofs::Substitution::substituted))]
 pub fn sub_byte(b: u8) -> u8
     ensures { result ≡ sub_byte b }
@@ -17,7 +16,6 @@ pub fn sub_byte(b: u8) -> u8
 }
 
 /// The column that MixColumns makes of SubBytes of a byte alone in a row.
-#[inline(always)]
 fn spread(b: u8, row: u32) -> u32
     requires { row < 4 }
     ensures { (k : ℕ) → k < 4 →
@@ -28,7 +26,6 @@ fn spread(b: u8, row: u32) -> u32
 
 /// A column after SubBytes and MixColumns, from the bytes that ShiftRows brings there:
 /// the sum of what each makes alone.
-#[inline(always)]
 fn mixed_column(a: u8, b: u8, c: u8, d: u8) -> u32
     ensures { (row : ℕ) → row < 4 →
         byte_of result row ≡ mixed_row row (sub_byte a) (sub_byte b) (sub_byte c) (sub_byte d) }
@@ -37,7 +34,6 @@ fn mixed_column(a: u8, b: u8, c: u8, d: u8) -> u32
 }
 
 /// A round before its key is added.
-#[inline(always)]
 pub fn mixed_round(s: [u32; 4]) -> [u32; 4]
     ensures { state_of_words result ≡ mix_columns (shift_rows (sub_bytes (state_of_words s))) }
 {
@@ -51,7 +47,6 @@ pub fn mixed_round(s: [u32; 4]) -> [u32; 4]
 }
 
 /// A column after SubBytes, from the bytes that ShiftRows brings there.
-#[inline(always)]
 fn substituted_column(a: u8, b: u8, c: u8, d: u8) -> u32
     ensures first { byte_of result 0 ≡ sub_byte a }
     ensures second { byte_of result 1 ≡ sub_byte b }
@@ -62,7 +57,6 @@ fn substituted_column(a: u8, b: u8, c: u8, d: u8) -> u32
 }
 
 /// The last round before its key is added.
-#[inline(always)]
 pub fn last_round(s: [u32; 4]) -> [u32; 4]
     ensures { state_of_words result ≡ shift_rows (sub_bytes (state_of_words s)) }
 {

@@ -7,7 +7,6 @@ ghost use Rattle.aes_block.specs.CipherInside.{byte_of, state_of_words, words_at
 use crate::tables::{INVERSE_SUB, UNMIXED};
 use crate::words::{add_round_key, byte, word};
 
-#[inline(always)]
 fn undo_sub_byte(b: u8) -> u8
     ensures { result ≡ slice_index INVERSE_SUB b }
 {
@@ -15,7 +14,6 @@ fn undo_sub_byte(b: u8) -> u8
 }
 
 /// A column before SubBytes, from the bytes that ShiftRows took elsewhere.
-#[inline(always)]
 fn restored_column(a: u8, b: u8, c: u8, d: u8) -> u32
     ensures first { byte_of result 0 ≡ slice_index INVERSE_SUB a }
     ensures second { byte_of result 1 ≡ slice_index INVERSE_SUB b }
@@ -31,7 +29,6 @@ fn restored_column(a: u8, b: u8, c: u8, d: u8) -> u32
 }
 
 /// Undoes SubBytes and ShiftRows: each row moves right by as many places as its number says.
-#[inline(always)]
 pub fn undo_last_round(s: [u32; 4]) -> [u32; 4]
     ensures { shift_rows (sub_bytes (state_of_words result)) ≡ state_of_words s }
 {
@@ -45,7 +42,6 @@ pub fn undo_last_round(s: [u32; 4]) -> [u32; 4]
 }
 
 /// The column that MixColumns takes to a byte alone in a row.
-#[inline(always)]
 fn unmixed(b: u8, row: u32) -> u32
     requires { row < 4 }
     ensures { (k : ℕ) → k < 4 → mixed_word k result ≡ (if k == row then b else 0) }
@@ -54,7 +50,6 @@ fn unmixed(b: u8, row: u32) -> u32
 }
 
 /// The column that MixColumns takes to the one given: the sum of those of its bytes.
-#[inline(always)]
 fn unmixed_column(w: u32) -> u32
     ensures { (k : ℕ) → k < 4 → mixed_word k result ≡ byte_of w k }
 {
@@ -64,7 +59,6 @@ fn unmixed_column(w: u32) -> u32
         ^ unmixed(byte(w, 3), 3)
 }
 
-#[inline(always)]
 pub fn undo_mix_columns(s: [u32; 4]) -> [u32; 4]
     ensures { mix_columns (state_of_words result) ≡ state_of_words s }
 {
@@ -77,7 +71,6 @@ pub fn undo_mix_columns(s: [u32; 4]) -> [u32; 4]
 }
 
 /// AddRoundKey undoes itself.
-#[inline(always)]
 pub fn undo_add_round_key(s: [u32; 4], keys: &[[u32; 11]; 4], round: usize) -> [u32; 4]
     requires { round < 11 }
     ensures { add_round_key (state_of_words result) (state_of_words (words_at keys.now round)) ≡

@@ -5,7 +5,6 @@ ghost use Rattle.aes_block.specs.Cipher.{add_round_key};
 ghost use Rattle.aes_block.specs.CipherInside.{byte_of, state_of_words, words_at};
 
 /// The byte of a word in a row.
-#[inline(always)]
 pub fn byte(word: u32, row: u32) -> u8
     requires { row < 4 }
     ensures { result ≡ byte_of word row }
@@ -14,7 +13,6 @@ pub fn byte(word: u32, row: u32) -> u8
 }
 
 /// The word of four bytes.
-#[inline(always)]
 pub fn word(a: u8, b: u8, c: u8, d: u8) -> u32
     ensures first { byte_of result 0 ≡ a }
     ensures second { byte_of result 1 ≡ b }
@@ -25,7 +23,6 @@ pub fn word(a: u8, b: u8, c: u8, d: u8) -> u32
 }
 
 /// The words of a block.
-#[inline(always)]
 pub fn from_block(s: &[u8; 16]) -> [u32; 4]
     ensures { state_of_words result ≡ s.now }
 {
@@ -38,7 +35,6 @@ pub fn from_block(s: &[u8; 16]) -> [u32; 4]
 }
 
 /// The block of four words.
-#[inline(always)]
 pub fn to_block(s: [u32; 4]) -> [u8; 16]
     ensures { result ≡ state_of_words s }
 {
@@ -54,7 +50,6 @@ pub fn to_block(s: [u32; 4]) -> [u8; 16]
 
 /// AddRoundKey (FIPS 197, 5.1.4).
 /// The words of a round lie apart, so that a state is four words and no wide register.
-#[inline(always)]
 pub fn add_round_key(s: [u32; 4], keys: &[[u32; 11]; 4], round: usize) -> [u32; 4]
     requires { round < 11 }
     ensures { state_of_words result ≡

@@ -14,7 +14,6 @@ use json::Value;
 const SHORT: usize = 19;
 
 /// The number that a text writes by digits alone, below 2^64.
-#[inline(always)]
 pub fn whole(text: &str) -> Option<u64>
     ensures { IfSome result (λ n. number_of text.now ≡ Some (unsigned n)) }
 {
@@ -51,7 +50,6 @@ fn is_short_unsigned(bytes: &[u8]) -> bool
 
 /// Whether each number in a value is short.
 #[cycle(numbers)]
-#[inline(always)]
 pub fn are_short(value: &Value<'_>) -> bool
     ensures { IsTrue result → AreRead (value_view value.now) }
 {
@@ -64,7 +62,6 @@ pub fn are_short(value: &Value<'_>) -> bool
 }
 
 #[cycle(numbers)]
-#[inline(never)]
 fn items_are_short(items: &Vec<Value<'_>>) -> bool
     ensures { IsTrue result → ItemsAreRead (items_view items.now.items) }
 {
@@ -77,7 +74,6 @@ fn items_are_short(items: &Vec<Value<'_>>) -> bool
 }
 
 #[cycle(numbers)]
-#[inline(never)]
 fn members_are_short(members: &Vec<(&str, Value<'_>)>) -> bool
     ensures { IsTrue result → MembersAreRead (members_view members.now.items) }
 {

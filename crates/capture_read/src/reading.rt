@@ -34,7 +34,6 @@ pub fn entry_with(alloc: Global, scratch: &mut Scratch, line: &[u8]) -> Result<E
 }
 
 /// The same of any line, as `serde_json` reads it.
-#[inline(never)]
 #[tactic(auto, unfolding(crate::specs::Entries::entry_of, crate::specs::Entries::json_of))]
 fn any_entry(alloc: Global, line: &[u8]) -> Result<Entry, EntryError>
     ensures entry { IfOk result (λ e. entry_of line.now ≡ Ok e) }

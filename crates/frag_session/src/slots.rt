@@ -256,7 +256,6 @@ impl<const W: usize, const B: usize> Slot<W, B> {
 }
 
 /// Puts a state into the place that was left empty for it.
-#[inline(always)]
 fn put<const W: usize, const B: usize>(place: &mut Option<State<W, B>>, state: State<W, B>)
     ensures { place.new ≡ Some state.entry }
 {

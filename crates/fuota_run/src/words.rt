@@ -28,7 +28,6 @@ pub fn read_words<'a>(
 }
 
 /// The same by all forms.
-#[inline(never)]
 fn read_all<'a>(alloc: Global, words: &'a [String]) -> Result<Option<Invocation<'a>>, AllocError>
     ensures { IfOk result (λ o. seen_asked o ≡ asked (map string_bytes words.now)) }
 {

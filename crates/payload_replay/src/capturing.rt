@@ -122,8 +122,7 @@ impl Capturing {
         self.kept.is_some()
     }
 
-    /// Hears the header. It stands alone, so that no other line sees to the room for a whole device.
-    #[inline(never)]
+    /// Hears the header.
     fn start(&mut self, header: &[u8])
         requires fine { self.old.kept ≡ None }
         requires first { self.old.state ≡ None }

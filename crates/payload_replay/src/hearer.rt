@@ -84,7 +84,6 @@ fn rows_by(rows: Option<u64>) -> Result<u16, LineWhy>
 }
 
 /// The device hears a payload at moment 0, and its uplinks are thrown away.
-#[inline(always)]
 pub fn hear(device: &mut Device<CellFlash>, payload: &[u8], mark: u64)
     requires { length payload.now ≤ max_payload }
     ensures { Becomes device.old device.new (λ before. after_payload mark payload.now before) }

@@ -101,8 +101,7 @@ impl Replaying {
         self.kept.is_some()
     }
 
-    /// Hears the header. It stands alone, so that no other line sees to the room for a whole device.
-    #[inline(never)]
+    /// Hears the header.
     fn start(&mut self, header: &[u8])
         requires fine { self.old.kept ≡ None }
         requires first { self.old.state ≡ None }

@@ -47,7 +47,6 @@ impl<const WORDS: usize, const BYTES: usize> Model for RowArena<WORDS, BYTES> {
 
 impl<const WORDS: usize, const BYTES: usize> RowArena<WORDS, BYTES> {
     /// An arena of no rows, columns or bytes.
-    #[inline(always)]
     pub fn new() -> Self
         requires words { WORDS ≤ max_words }
         requires bytes { BYTES ≤ max_bytes }

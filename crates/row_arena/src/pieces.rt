@@ -38,7 +38,6 @@ fn sum_short(area: &[u8], picks: &[u16], part: &[u8], rest: &mut [u8])
 }
 
 /// The 16 bytes from a place on; after the last of the slice they are zero.
-#[inline(always)]
 fn lanes_at(bytes: &[u8], at: usize) -> u8x16
     requires inside { at ≤ length bytes.now }
     ensures wide { length result ≡ 16 }

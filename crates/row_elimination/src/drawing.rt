@@ -9,7 +9,6 @@ use parity_lines::Steps;
 use row_arena::{clear_bits, flip_bit};
 use std::sync::ledger::Ledger;
 
-#[inline(never)]
 /// Writes the line of fragment `n` of a file of `pieces` pieces, for each of which there is room, and counts the states that
 /// are drawn for it.
 pub fn draw<L: Ledger>(n: u16, pieces: u16, line: &mut [u64], draws: &mut Steps<L>)

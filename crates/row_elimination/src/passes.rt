@@ -105,7 +105,6 @@ fn take_row<const W: usize, const B: usize, M: Ledger>(
 }
 
 /// Adds a part to another that is as long, and counts it.
-#[inline(always)]
 fn add_counted<M: Ledger>(into: &mut [u8], part: &[u8], sums: &mut Steps<M>)
     requires { length part.now ≡ length into.old }
     ensures sum { into.new ≡ zip2 bit_xor into.old part.now }

@@ -77,7 +77,6 @@ pub struct RawAirParts<'a> {
 }
 
 /// The numbers of a line `down S D [WORD]`.
-#[inline(always)]
 pub fn down_numbers(line: &[u8]) -> Option<DownNumbers>
     ensures { IfSome result (λ n. form_of line.now ≡ Some (Down n.number n.device n.random)) }
 {
@@ -88,7 +87,6 @@ pub fn down_numbers(line: &[u8]) -> Option<DownNumbers>
 }
 
 /// The numbers of a line `air S D [WORD]`.
-#[inline(always)]
 pub fn air_numbers(line: &[u8]) -> Option<DownNumbers>
     ensures { IfSome result (λ n. form_of line.now ≡ Some (Air n.number n.device n.random)) }
 {
@@ -99,7 +97,6 @@ pub fn air_numbers(line: &[u8]) -> Option<DownNumbers>
 }
 
 /// The parts of a line `raw D PORT HEX [WORD]`.
-#[inline(always)]
 pub fn raw_parts(line: &[u8]) -> Option<RawParts<'_>>
     ensures { IfSome result
         (λ r. form_of line.now ≡ Some (Raw r.device r.port r.payload r.random)) }
@@ -111,7 +108,6 @@ pub fn raw_parts(line: &[u8]) -> Option<RawParts<'_>>
 }
 
 /// The parts of a line `rawair D HEX [WORD]`.
-#[inline(always)]
 pub fn raw_air_parts(line: &[u8]) -> Option<RawAirParts<'_>>
     ensures { IfSome result (λ r. form_of line.now ≡ Some (RawAir r.device r.bytes r.random)) }
 {
@@ -122,7 +118,6 @@ pub fn raw_air_parts(line: &[u8]) -> Option<RawAirParts<'_>>
 }
 
 /// Whether a line is `frag`.
-#[inline(always)]
 pub fn is_frag(line: &[u8]) -> bool
     ensures { IsTrue result → form_of line.now ≡ Some Frag }
 {
@@ -133,7 +128,6 @@ pub fn is_frag(line: &[u8]) -> bool
 }
 
 /// Whether a line is `status`.
-#[inline(always)]
 pub fn is_status(line: &[u8]) -> bool
     ensures { IsTrue result → form_of line.now ≡ Some Status }
 {
@@ -144,7 +138,6 @@ pub fn is_status(line: &[u8]) -> bool
 }
 
 /// U of a line `up U`.
-#[inline(always)]
 pub fn up_number(line: &[u8]) -> Option<u64>
     ensures { IfSome result (λ n. form_of line.now ≡ Some (Up n)) }
 {
@@ -155,7 +148,6 @@ pub fn up_number(line: &[u8]) -> Option<u64>
 }
 
 /// D of a line `ask D`.
-#[inline(always)]
 pub fn asked_device(line: &[u8]) -> Option<u64>
     ensures one { IfSome result (λ n. form_of line.now ≡ Some (Ask n)) }
     ensures two { IfSome result (λ n. pair_form_of line.now ≡ of_none (Some (Ask n))) }
@@ -167,7 +159,6 @@ pub fn asked_device(line: &[u8]) -> Option<u64>
 }
 
 /// D of a line `wake D`.
-#[inline(always)]
 pub fn woken_device(line: &[u8]) -> Option<u64>
     ensures one { IfSome result (λ n. form_of line.now ≡ Some (Wake n)) }
     ensures two { IfSome result (λ n. pair_form_of line.now ≡ of_none (Some (Wake n))) }
@@ -179,7 +170,6 @@ pub fn woken_device(line: &[u8]) -> Option<u64>
 }
 
 /// D of a line `migrate D`.
-#[inline(always)]
 pub fn migrated_device(line: &[u8]) -> Option<u64>
     ensures one { IfSome result (λ n. form_of line.now ≡ Some (Migrate n)) }
     ensures two { IfSome result (λ n. pair_form_of line.now ≡ of_none (Some (Migrate n))) }
@@ -191,7 +181,6 @@ pub fn migrated_device(line: &[u8]) -> Option<u64>
 }
 
 /// D of a line `power D`.
-#[inline(always)]
 pub fn powered_device(line: &[u8]) -> Option<u64>
     ensures one { IfSome result (λ n. form_of line.now ≡ Some (Power n)) }
     ensures two { IfSome result (λ n. pair_form_of line.now ≡ of_none (Some (Power n))) }
@@ -203,7 +192,6 @@ pub fn powered_device(line: &[u8]) -> Option<u64>
 }
 
 /// MS of a line `at MS`.
-#[inline(always)]
 pub fn time_at(line: &[u8]) -> Option<u64>
     ensures one { IfSome result (λ n. form_of line.now ≡ Some (At n)) }
     ensures two { IfSome result (λ n. pair_form_of line.now ≡ of_none (Some (At n))) }
@@ -215,7 +203,6 @@ pub fn time_at(line: &[u8]) -> Option<u64>
 }
 
 /// The numbers after the keyword of a line `down S D [WORD]` or `air S D [WORD]`.
-#[inline(always)]
 #[tactic(auto, using(crate::proofs::FastForms::down_line, crate::proofs::FastForms::air_line))]
 fn numbers_behind(rest: &[u8]) -> Option<DownNumbers>
     ensures down { IfSome result
@@ -265,7 +252,6 @@ fn raw_air_behind(rest: &[u8]) -> Option<RawAirParts<'_>>
 }
 
 /// HEX [WORD] at the end of a line.
-#[inline(always)]
 fn hex_tail(bytes: &[u8]) -> Option<HexTail<'_>>
     ensures { IfSome result (λ t. WordLast hex_bytes_of bytes.now t.bytes t.random) }
 {
@@ -289,7 +275,6 @@ fn hex_tail(bytes: &[u8]) -> Option<HexTail<'_>>
 }
 
 /// N [WORD] at the end of a line.
-#[inline(always)]
 fn decimal_tail(bytes: &[u8]) -> Option<DecimalTail>
     ensures { IfSome result (λ t. WordLast decimal_of bytes.now t.number t.random) }
 {
@@ -311,7 +296,6 @@ fn decimal_tail(bytes: &[u8]) -> Option<DecimalTail>
 }
 
 /// A decimal with a space after it at the front of bytes.
-#[inline(always)]
 fn spaced_decimal(bytes: &[u8]) -> Option<Spaced<'_>>
     ensures { IfSome result (λ s. DecimalFirst bytes.now s.number s.rest.now) }
 {
@@ -326,7 +310,6 @@ fn spaced_decimal(bytes: &[u8]) -> Option<Spaced<'_>>
 }
 
 /// Whether nothing stands after a keyword.
-#[inline(always)]
 #[tactic(auto, using(crate::proofs::FastForms::frag_line, crate::proofs::FastForms::status_line))]
 fn is_no_more(rest: &[u8]) -> bool
     ensures frag { IsTrue result → form_of (codes "frag" ++ rest.now) ≡ Some Frag }

@@ -8,7 +8,6 @@ ghost use Rattle.script_lines.specs.HeldLines.{IsLastFeed};
 use memchr::{memchr, memrchr};
 
 /// The place of the first line feed; one that comes first needs no search.
-#[inline(always)]
 pub(crate) fn line_feed(bytes: &[u8]) -> Option<usize>
     ensures { result ≡ position is_feed bytes.now }
 {

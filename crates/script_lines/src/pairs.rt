@@ -33,7 +33,6 @@ pub fn pair_form(line: &[u8]) -> Option<PairForm<'_>>
 }
 
 /// The form of any line, word by word.
-#[inline(never)]
 #[tactic(auto, unfolding(crate::specs::PairForms::pair_form_of))]
 fn any_pair_form(line: &[u8]) -> Option<PairForm<'_>>
     ensures { result ≡ pair_form_of line.now }
@@ -55,7 +54,6 @@ fn any_pair_form(line: &[u8]) -> Option<PairForm<'_>>
 }
 
 /// The form of a line after those of the plan: the moment, and what happens to a device.
-#[inline(always)]
 fn pair_event_form<'a>(line: &'a [u8], keyword: &[u8]) -> Option<PairForm<'a>>
     requires { keyword.now ≡ word line.now 0 }
     ensures { result ≡ pair_event_form line.now }
@@ -76,7 +74,6 @@ fn pair_event_form<'a>(line: &'a [u8], keyword: &[u8]) -> Option<PairForm<'a>>
 }
 
 /// The form of a line after those: of a campaign that the line names, and the end.
-#[inline(always)]
 fn pair_sent_form<'a>(line: &'a [u8], keyword: &[u8]) -> Option<PairForm<'a>>
     requires { keyword.now ≡ word line.now 0 }
     ensures { result ≡ pair_sent_form line.now }

@@ -8,7 +8,6 @@ use crate::numbers::{decimal, hex_number, key};
 use crate::words::{count_words, is_word, word};
 
 /// `fuota 1`
-#[inline(never)]
 pub(crate) fn header_form(line: &[u8]) -> Option<Form<'_>>
     ensures { result ≡ header_form line.now }
 {
@@ -20,7 +19,6 @@ pub(crate) fn header_form(line: &[u8]) -> Option<Form<'_>>
 }
 
 /// `image FRAGSIZE PARITY`
-#[inline(never)]
 pub(crate) fn image_form(line: &[u8]) -> Option<Form<'_>>
     ensures { result ≡ image_form line.now }
 {
@@ -46,7 +44,6 @@ pub(crate) fn image_words(line: &[u8], place: usize, index: u64) -> Option<Form<
 }
 
 /// `group ADDR KEY MIN MAX`
-#[inline(never)]
 pub(crate) fn group_form(line: &[u8]) -> Option<Form<'_>>
     ensures { result ≡ group_form line.now }
 {
@@ -76,7 +73,6 @@ pub(crate) fn group_words(line: &[u8], place: usize, id: u64) -> Option<Form<'_>
 }
 
 /// `window c ..` or `window b ..`, the letter at a place.
-#[inline(never)]
 pub(crate) fn window_from(line: &[u8], place: usize) -> Option<Form<'_>>
     requires { place ≤ 8 }
     ensures { result ≡ window_from line.now place }
@@ -128,7 +124,6 @@ fn window_b_words(line: &[u8], place: usize) -> Option<Form<'_>>
 }
 
 /// `device ID CLASS HW ROWS OFFSET KEY [DESCRIPTOR] [v1] [k11] [flash]`, CLASS at a place.
-#[inline(never)]
 pub(crate) fn device_from(line: &[u8], place: usize) -> Option<Form<'_>>
     requires { place ≤ 8 }
     ensures { result ≡ device_from line.now place }
@@ -142,7 +137,6 @@ pub(crate) fn device_from(line: &[u8], place: usize) -> Option<Form<'_>>
 }
 
 /// The same in so many words, those before `flash`.
-#[inline(never)]
 fn device_to(line: &[u8], place: usize, count: usize, flash: bool) -> Option<Form<'_>>
     requires { place ≤ 8 }
     ensures { result ≡ device_to line.now place count flash }
@@ -155,7 +149,6 @@ fn device_to(line: &[u8], place: usize, count: usize, flash: bool) -> Option<For
 }
 
 /// The same in so many words, those before `k11`.
-#[inline(never)]
 fn device_of_words(
     line: &[u8],
     place: usize,

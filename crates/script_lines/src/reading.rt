@@ -66,7 +66,6 @@ pub fn form(line: &[u8]) -> Option<Form<'_>>
 }
 
 /// The form of any line, word by word.
-#[inline(never)]
 #[tactic(auto, unfolding(crate::specs::Forms::form_of))]
 fn any_form(line: &[u8]) -> Option<Form<'_>>
     ensures { result ≡ form_of line.now }
@@ -88,7 +87,6 @@ fn any_form(line: &[u8]) -> Option<Form<'_>>
 }
 
 /// The form of a line after those of the plan: the moment, what happens to a device, what the server is asked for.
-#[inline(always)]
 fn event_form<'a>(line: &'a [u8], keyword: &[u8]) -> Option<Form<'a>>
     requires { keyword.now ≡ word line.now 0 }
     ensures { result ≡ event_form line.now }
@@ -113,7 +111,6 @@ fn event_form<'a>(line: &'a [u8], keyword: &[u8]) -> Option<Form<'a>>
 }
 
 /// The form of a line after those: what goes to a device or comes from one, and the end.
-#[inline(always)]
 fn sent_form<'a>(line: &'a [u8], keyword: &[u8]) -> Option<Form<'a>>
     requires { keyword.now ≡ word line.now 0 }
     ensures { result ≡ sent_form line.now }
@@ -143,7 +140,6 @@ pub(crate) fn is_keyword(word: &[u8], keyword: &str) -> bool
 }
 
 /// A form of its keyword alone.
-#[inline(never)]
 pub(crate) fn alone<'a>(line: &[u8], form: Form<'a>) -> Option<Form<'a>>
     ensures { result ≡ alone line.now form.entry }
 {
@@ -155,7 +151,6 @@ pub(crate) fn alone<'a>(line: &[u8], form: Form<'a>) -> Option<Form<'a>>
 }
 
 /// `at MS`
-#[inline(never)]
 pub(crate) fn at_form(line: &[u8]) -> Option<Form<'_>>
     ensures { result ≡ at_form line.now }
 {
@@ -167,7 +162,6 @@ pub(crate) fn at_form(line: &[u8]) -> Option<Form<'_>>
 }
 
 /// `wake D`
-#[inline(never)]
 pub(crate) fn wake_form(line: &[u8]) -> Option<Form<'_>>
     ensures { result ≡ wake_form line.now }
 {
@@ -179,7 +173,6 @@ pub(crate) fn wake_form(line: &[u8]) -> Option<Form<'_>>
 }
 
 /// `migrate D`
-#[inline(never)]
 pub(crate) fn migrate_form(line: &[u8]) -> Option<Form<'_>>
     ensures { result ≡ migrate_form line.now }
 {
@@ -191,7 +184,6 @@ pub(crate) fn migrate_form(line: &[u8]) -> Option<Form<'_>>
 }
 
 /// `power D`
-#[inline(never)]
 pub(crate) fn power_form(line: &[u8]) -> Option<Form<'_>>
     ensures { result ≡ power_form line.now }
 {
@@ -203,7 +195,6 @@ pub(crate) fn power_form(line: &[u8]) -> Option<Form<'_>>
 }
 
 /// `ask D`
-#[inline(never)]
 pub(crate) fn ask_form(line: &[u8]) -> Option<Form<'_>>
     ensures { result ≡ ask_form line.now }
 {
@@ -215,7 +206,6 @@ pub(crate) fn ask_form(line: &[u8]) -> Option<Form<'_>>
 }
 
 /// `down S D [WORD]`
-#[inline(never)]
 fn down_form(line: &[u8]) -> Option<Form<'_>>
     ensures { result ≡ down_form line.now }
 {
@@ -249,7 +239,6 @@ fn down_words(line: &[u8], payload: Option<u64>, random: u64) -> Option<Form<'_>
 }
 
 /// `raw D PORT HEX [WORD]`
-#[inline(never)]
 fn raw_form(line: &[u8]) -> Option<Form<'_>>
     ensures { result ≡ raw_form line.now }
 {
@@ -278,7 +267,6 @@ fn raw_words(line: &[u8], random: u64) -> Option<Form<'_>>
 }
 
 /// `air S D [WORD]`
-#[inline(never)]
 fn air_form(line: &[u8]) -> Option<Form<'_>>
     ensures { result ≡ air_form line.now }
 {
@@ -306,7 +294,6 @@ pub(crate) fn in_the_air(form: Option<Form<'_>>) -> Option<Form<'_>>
 }
 
 /// `rawair D HEX [WORD]`
-#[inline(never)]
 fn raw_air_form(line: &[u8]) -> Option<Form<'_>>
     ensures { result ≡ raw_air_form line.now }
 {
@@ -333,7 +320,6 @@ fn raw_air_words(line: &[u8], random: u64) -> Option<Form<'_>>
 }
 
 /// `up U`
-#[inline(never)]
 fn up_form(line: &[u8]) -> Option<Form<'_>>
     ensures { result ≡ up_form line.now }
 {

@@ -61,9 +61,7 @@ pub fn first_state(alloc: Global, layout: Layout, held: bool) -> Result<State, M
     }
 }
 
-/// Puts sessions that are held back where they were taken from. It stands alone, so that no session in memory clears room
-/// for those.
-#[inline(never)]
+/// Puts sessions that are held back where they were taken from.
 pub fn put_slots(place: &mut Option<State>, slots: HeldSlots)
     ensures { place.new ≡ Some (State.Flash slots) }
 {
@@ -71,16 +69,13 @@ pub fn put_slots(place: &mut Option<State>, slots: HeldSlots)
 }
 
 /// Puts sessions down where they were taken from.
-#[inline(never)]
 pub fn put_idles(place: &mut Option<State>, idles: Idles, flags: CompleteFlags)
     ensures { place.new ≡ Some (Down idles flags) }
 {
     *place = Some(State::Down(idles, flags));
 }
 
-/// Puts sessions down that are up in flash, with which had their file whole. It stands alone, so that no call that passes
-/// clears room for their memory.
-#[inline(never)]
+/// Puts sessions down that are up in flash, with which had their file whole.
 pub fn go_down(place: &mut Option<State>, flags: CompleteFlags)
     ensures { (slots : HeldPlaces) → place.old ≡ Some (State.Flash slots)
         → (idles : _) × (place.new ≡ Some (Down idles flags)) × AreIdle slots.layout.area idles }

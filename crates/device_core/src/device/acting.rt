@@ -25,9 +25,8 @@ use session_store::FlashFault;
 impl<F: Flash + Drop> Device<F> {
     ghost use Rattle.device_core.specs.HeldDevice.{StepsAside};
 
-    /// Acts on one command; by multicast only DataFragment and FragSessionStatusReq act (this project's profile). It stands
-    /// alone, so that a payload of one fragment sees to nothing of it.
-    #[inline(never)]
+    /// Acts on one command; by multicast only DataFragment and FragSessionStatusReq act (this project's
+    /// profile).
     #[tactic(auto, unfolding(crate::specs::Step::step, crate::specs::Answers::after_answers, crate::specs::Passed::step_tables))]
     pub(super) fn act(&mut self, here: Arrival, command: &Command) -> Result<(), FlashFault>
         requires up { IsUp self.old.sessions.state }
@@ -266,7 +265,6 @@ fn acts(via: Via, command: &Command) -> bool
 }
 
 /// How many uplinks the commands of a message make at most.
-#[inline(always)]
 pub fn weights(mut message: Message<'_>) -> u16
     requires { length message.commands ≤ 242 }
     ensures weight { result ≡ weights message.entry.commands }

@@ -70,7 +70,6 @@ impl<F: Flash + Drop> Device<F> {
     }
 
     /// Carries out a reboot that is due.
-    #[inline(always)]
     #[tactic(auto, unfolding(crate::specs::Firmware::after_due_reboot))]
     pub(super) fn reboot_where_due(&mut self, t: u64)
         ensures becomes { Becomes self.old self.new (after_due_reboot t) }
@@ -81,8 +80,7 @@ impl<F: Flash + Drop> Device<F> {
         }
     }
 
-    /// Carries out a reboot. It stands alone, so that no payload sees to more of it than whether it is due.
-    #[inline(never)]
+    /// Carries out a reboot.
     fn reboot_now(&mut self)
         ensures { self.new
             ≡ record self.old { reboot = None; slots = after_swap self.old.slots } }

@@ -24,7 +24,6 @@ impl<F: Flash + Drop> Device<F> {
     ghost use Rattle.device_core.specs.HeldDevice.{device_of, StepsAside};
 
     /// Whether a payload is heard.
-    #[inline(always)]
     #[tactic(auto, unfolding(crate::specs::ClassSessions::hears))]
     pub(super) fn hears(&self, t: u64, to: To) -> bool
         ensures { (table : SessionTable) → result ≡ hears (device_of self.now table) t to }
