@@ -20,7 +20,7 @@ use Rattle.frag_session.specs.Setup.{Room, rows_of, too_long, setup_bits, bit_wh
 use Rattle.frag_session.specs.Session.{Session, Seen, shape_of, followed, received_count, new_session, renewed, after_setup, excludes, cause_of, drop_cause, news_in, answer_of, after_fragment, seen_of, view_of, shown_verdict, shown_file, status_in, status_of}
 use Rattle.frag_session.specs.Held as kept
 use Rattle.frag_session.specs.Held.{HeldSlot, Held}
-use Rattle.frag_session.specs.HeldView.{receiving_seen, done_seen, failed_seen, overflowed_seen}
+use Rattle.frag_session.specs.HeldView.{receiving_seen, done_seen, failed_seen}
 use Rattle.frag_session.specs.HeldSteps.{session_setup, slot_cause, slot_seen, CanHear, told_of, news_between}
 use Rattle.frag_session.specs.HeldHistory.{IsSetUp, Holds, Stands}
 use Rattle.frag_session.proofs.Standing.{setup_kept, no_setup_kept}
@@ -182,7 +182,7 @@ seen_same r r' m m' v v' f f' er em ev ef =
     ∙ ap₂ (λ a b. Some (record { received = r'; missing = m'; verdict = a; file = b })) ev ef
 
 pub shows : (x : HeldSlot) (s : Option Session) → Stands x s → slot_seen x ≡ view_of s
-unfolding Stands slot_seen view_of receiving_seen done_seen failed_seen overflowed_seen seen_of shown_verdict shown_file file_of shape_of
+unfolding Stands slot_seen view_of receiving_seen done_seen failed_seen seen_of shown_verdict shown_file file_of shape_of
 shows (kept.idle extent) None k = refl
 shows (kept.idle extent) (Some s) k = absurd k
 shows (kept.receiving h) None k = absurd k

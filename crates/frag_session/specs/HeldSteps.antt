@@ -3,6 +3,7 @@ use Rattle.std.specs.Prelude.{◌≡◌, ℕ, ◌+◌, ◌≤◌, ◌&&◌, ◌=
 use Rattle.row_elimination.specs.HeldPlaces.{pieces_held}
 use Rattle.row_elimination.specs.HeldSolver.{missing_of}
 use Rattle.row_elimination.specs.Room.{Extent, extent_for}
+use Rattle.frag_session.specs.declared.answers.Verdict.TheVariants as shown
 use Rattle.frag_session.specs.declared.answers.News.{News}
 use Rattle.frag_session.specs.declared.answers.News.TheVariants as news
 use Rattle.frag_session.specs.declared.setups.SetupReq.{SetupReq}
@@ -15,7 +16,7 @@ use Rattle.frag_session.specs.declared.slots.State.{State}
 use Rattle.frag_session.specs.declared.slots.State.TheVariants as state
 use Rattle.frag_session.specs.Held.{HeldSlot, idle, receiving, complete, overflowed, conflicted}
 use Rattle.frag_session.specs.Session.{cause_of, Seen}
-use Rattle.frag_session.specs.HeldView.{receiving_seen, done_seen, failed_seen, overflowed_seen}
+use Rattle.frag_session.specs.HeldView.{receiving_seen, done_seen, failed_seen}
 use Rattle.frag_model.specs.Limits.{max_parity_index}
 
 -- a state as it is kept
@@ -71,8 +72,8 @@ unfoldable pub slot_seen : HeldSlot → Option Seen
 slot_seen (idle extent) = None
 slot_seen (receiving h) = Some (receiving_seen h)
 slot_seen (complete d) = Some (done_seen d)
-slot_seen (overflowed f) = Some (overflowed_seen f)
-slot_seen (conflicted f) = Some (failed_seen f)
+slot_seen (overflowed f) = Some (failed_seen (shown.NoRows f.mark) f)
+slot_seen (conflicted f) = Some (failed_seen (shown.Conflict f.mark) f)
 
 -- what is known while nothing is decided: the pieces still to be gained, and how many came uncoded
 unfoldable pub told_of : HeldSlot → Option (ℕ × ℕ)

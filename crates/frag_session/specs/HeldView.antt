@@ -2,6 +2,7 @@
 use Rattle.std.specs.Prelude.{◌≡◌, ℕ, ◌-◌, ◌≤◌, [], take, length}
 use Rattle.row_elimination.specs.HeldSolver.{missing_of}
 use Rattle.frag_session.specs.declared.answers.View.{View}
+use Rattle.frag_session.specs.declared.answers.Verdict.{Verdict}
 use Rattle.frag_session.specs.declared.answers.Verdict.TheVariants as shown
 use Rattle.frag_session.specs.Held.{Held, Done, Failed}
 use Rattle.frag_session.specs.Limits.{max_received}
@@ -25,10 +26,6 @@ receiving_seen h = record { received = h.received; missing = missing_of h.solver
 unfoldable pub done_seen : Done → Seen
 done_seen d = record { received = d.received; missing = 0; verdict = shown.Complete d.mark; file = take (length d.solver.content - d.setup.padding) d.solver.content }
 
--- where no file fits: what was missing before the fragment that contradicted
-unfoldable pub failed_seen : Failed → Seen
-failed_seen f = record { received = f.received; missing = f.missing; verdict = shown.Conflict f.mark; file = [] }
-
--- where the rows did not suffice: what was missing before the fragment that was one too many
-unfoldable pub overflowed_seen : Failed → Seen
-overflowed_seen f = record { received = f.received; missing = f.missing; verdict = shown.NoRows f.mark; file = [] }
+-- with the verdict that there is none: what was missing before the fragment that brought it
+unfoldable pub failed_seen : Verdict → Failed → Seen
+failed_seen verdict f = record { received = f.received; missing = f.missing; verdict = verdict; file = [] }

@@ -13,11 +13,10 @@
 
 mod answers;
 mod complete_state;
-mod conflicted_state;
 mod dropping;
+mod failed_state;
 mod idle_state;
 mod laws;
-mod overflowed_state;
 mod receiving_state;
 mod setups;
 mod slots;
@@ -25,10 +24,9 @@ mod statuses;
 
 pub use answers::{Cause, Heard, News, StatusAns, Verdict, Via, View};
 pub use complete_state::Complete;
-pub use conflicted_state::Conflicted;
+pub use failed_state::{Conflicted, Overflowed};
 pub use idle_state::Idle;
 pub use laws::{first_moment, missing_is_counted, worked_sessions};
-pub use overflowed_state::Overflowed;
 pub use receiving_state::{Next, Receiving};
 pub use setups::{Limits, SetupReq};
 pub use slots::{Slot, State};

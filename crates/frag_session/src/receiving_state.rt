@@ -11,9 +11,8 @@ ghost use Rattle.frag_model.specs.Limits.{max_parity_index};
 
 use crate::answers::{Verdict, View};
 use crate::complete_state::Complete;
-use crate::conflicted_state::Conflicted;
+use crate::failed_state::{Conflicted, FailedState, Overflowed};
 use crate::idle_state::Idle;
-use crate::overflowed_state::Overflowed;
 use crate::setups::SetupReq;
 use row_elimination::{Fed, Solver};
 use std::marker::Model;
@@ -89,8 +88,12 @@ impl<const W: usize, const B: usize> Receiving<W, B> {
                 received,
             }),
             Fed::Complete => Next::Complete(Complete::decided(solver, setup, received, mark)),
-            Fed::NoRows => Next::Overflowed(Overflowed::decided(solver, setup, received, mark)),
-            Fed::Conflict => Next::Conflicted(Conflicted::decided(solver, setup, received, mark)),
+            Fed::NoRows => Next::Overflowed(Overflowed {
+                failed: FailedState::decided(solver, setup, received, mark),
+            }),
+            Fed::Conflict => Next::Conflicted(Conflicted {
+                failed: FailedState::decided(solver, setup, received, mark),
+            }),
         }
     }
 

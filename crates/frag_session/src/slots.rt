@@ -11,10 +11,9 @@ ghost use Rattle.frag_session.specs.Limits.{max_received};
 
 use crate::answers::{Heard, News, StatusAns, Via, View};
 use crate::complete_state::Complete;
-use crate::conflicted_state::Conflicted;
 use crate::dropping::dropped;
+use crate::failed_state::{Conflicted, Overflowed};
 use crate::idle_state::Idle;
-use crate::overflowed_state::Overflowed;
 use crate::receiving_state::{Next, Receiving};
 use crate::setups::{Limits, SetupReq, lives, refusal};
 use crate::statuses::status_in;
@@ -116,8 +115,18 @@ impl<const W: usize, const B: usize> Slot<W, B> {
             Some(State::Idle(idle)) => refusal(idle.solver(), req, limits, span),
             Some(State::Receiving(receiving)) => refusal(receiving.solver(), req, limits, span),
             Some(State::Complete(complete)) => refusal(complete.solver(), req, limits, span),
-            Some(State::Overflowed(overflowed)) => refusal(overflowed.solver(), req, limits, span),
-            Some(State::Conflicted(conflicted)) => refusal(conflicted.solver(), req, limits, span),
+            Some(State::Overflowed(overflowed)) => refusal(
+                overflowed.failed.solver(),
+                req,
+                limits,
+                span,
+            ),
+            Some(State::Conflicted(conflicted)) => refusal(
+                conflicted.failed.solver(),
+                req,
+                limits,
+                span,
+            ),
             None => 0,
         }
     }
@@ -248,8 +257,8 @@ impl<const W: usize, const B: usize> Slot<W, B> {
         match &self.state {
             Some(State::Receiving(receiving)) => Some(receiving.setup()),
             Some(State::Complete(complete)) => Some(complete.setup()),
-            Some(State::Overflowed(overflowed)) => Some(overflowed.setup()),
-            Some(State::Conflicted(conflicted)) => Some(conflicted.setup()),
+            Some(State::Overflowed(overflowed)) => Some(overflowed.failed.setup()),
+            Some(State::Conflicted(conflicted)) => Some(conflicted.failed.setup()),
             _ => None,
         }
     }
