@@ -1,6 +1,6 @@
 //! What the server asks of a device at each stage.
 
-ghost use Rattle.std.specs.Prelude.{◌≡◌, ◌≤◌, Some, true, length};
+ghost use Rattle.std.specs.Prelude.{◌≡◌, ◌≤◌, Some, true, length, option_map, IfSome};
 ghost use Rattle.package_grammar.specs.declared.command.Command.TheVariants.{Sync, Cast};
 ghost use Rattle.sync_wire.specs.declared.cmd.Cmd.TheVariants.{DevVersionReq, DevUpgradeImageReq, DevRebootCountdownReq};
 ghost use Rattle.cast_wire.specs.declared.cmd.Cmd.TheVariants.{FragSessionStatusReq};
@@ -8,104 +8,92 @@ ghost use Rattle.campaign_server.specs.Plan.{max_index};
 ghost use Rattle.aes_block.specs.Cipher.{IsBlock};
 ghost use Rattle.mc_keys.specs.Keys.{mc_ke_key};
 ghost use Rattle.mc_keys.specs.Roots.{root_of};
-ghost use Rattle.campaign_server.specs.Asking.{request_at, by_unicast, group_request, mask_of, fragments_request, window_request};
+ghost use Rattle.campaign_server.specs.Asking.{request_at, group_request, mask_of, fragments_request, window_request};
 ghost use Rattle.campaign_server.specs.Wrapping.{wrapped_key};
 ghost use Rattle.campaign_server.specs.ServerInside.{IsCut, GroupFits, WindowFits};
-ghost use Rattle.campaign_server.specs.Sent.{down_of, unicast_of};
+ghost use Rattle.campaign_server.specs.Sent.{IsSent};
 
 use crate::plan::{Kind, Plan, PlanDevice, PlanGroup, PlanWindow, own_id};
-use crate::spelling::unicast;
 use crate::stage::{Request, Stage};
 use cast_wire::{Cmd, FRAGMENT_PORT, MULTICAST_PORT};
 use frag_encoder::Encoder;
 use image_slots::firmware;
 use mc_keys::{Key, kek, wrap_key};
-use package_grammar::{Command, Downlink};
+use package_grammar::Command;
 use sync_wire::FIRMWARE_PORT;
 
-/// The request of a stage, to a device. There is none at updated and refused, and at a stage whose part the plan lacks, to
-/// which no answer leads.
+/// The port and the command of a stage's request to a device. There is none at updated and refused, and at a stage whose
+/// part the plan lacks, to which no answer leads.
 #[tactic(auto, unfolding(crate::specs::Asking::request_at))]
 pub fn request(
     plan: &Plan,
     encoder: &Encoder,
     device: &PlanDevice,
     stage: Stage,
-) -> Option<Downlink>
+) -> Option<(u8, Command<'static>)>
     requires { IsCut plan.now encoder.now }
-    ensures { result
-        ≡ down_of (by_unicast (request_at plan.now encoder.now.file device.now stage)) }
+    ensures command { option_map (λ asked. asked.1) result
+        ≡ request_at plan.now encoder.now.file device.now stage }
+    ensures sent { IfSome result (λ asked. IsSent asked.0 asked.1) }
 {
     let Stage::At(request) = stage else {
         return None;
     };
     match request {
-        Request::Version => Some(version_request()),
+        Request::Version => Some(of_firmware(sync_wire::Cmd::DevVersionReq)),
         Request::Group => match plan.group {
-            Some(group) => Some(group_request(device, &group)),
+            Some(group) => Some((MULTICAST_PORT, group_request(device, &group))),
             None => None,
         },
-        Request::Fragments => Some(fragments_request(plan, encoder)),
+        Request::Fragments => Some((FRAGMENT_PORT, fragments_request(plan, encoder))),
         Request::Window => match plan.window {
-            Some(window) => Some(window_request(own_id(plan.group), &window)),
+            Some(window) => Some((MULTICAST_PORT, window_request(own_id(plan.group), &window))),
             None => None,
         },
-        Request::Status => Some(status_request(plan)),
-        Request::Image => Some(image_request()),
-        Request::Reboot => Some(reboot_request()),
-        Request::Check => Some(version_request()),
+        Request::Status => Some((FRAGMENT_PORT, status_request(plan))),
+        Request::Image => Some(of_firmware(sync_wire::Cmd::DevUpgradeImageReq)),
+        Request::Reboot => Some(of_firmware(sync_wire::Cmd::DevRebootCountdownReq { count: 0 })),
+        Request::Check => Some(of_firmware(sync_wire::Cmd::DevVersionReq)),
     }
 }
 
-fn version_request() -> Downlink
-    ensures { result ≡ unicast_of (Sync DevVersionReq) }
+/// A command of the firmware package, on its port.
+fn of_firmware(cmd: sync_wire::Cmd) -> (u8, Command<'static>)
+    requires { IsSent 203 (Sync cmd) }
+    ensures command { result.1 ≡ Sync cmd }
+    ensures sent { IsSent result.0 result.1 }
 {
-    let command = Command::Sync(sync_wire::Cmd::DevVersionReq);
-    unicast(FIRMWARE_PORT, &command)
+    (FIRMWARE_PORT, Command::Sync(cmd))
 }
 
-fn image_request() -> Downlink
-    ensures { result ≡ unicast_of (Sync DevUpgradeImageReq) }
-{
-    let command = Command::Sync(sync_wire::Cmd::DevUpgradeImageReq);
-    unicast(FIRMWARE_PORT, &command)
-}
-
-fn reboot_request() -> Downlink
-    ensures { result ≡ unicast_of (Sync (DevRebootCountdownReq 0)) }
-{
-    let command = Command::Sync(sync_wire::Cmd::DevRebootCountdownReq { count: 0 });
-    unicast(FIRMWARE_PORT, &command)
-}
-
-fn status_request(plan: &Plan) -> Downlink
+fn status_request(plan: &Plan) -> Command<'static>
     requires index { plan.now.index ≤ max_index }
-    ensures { result ≡ unicast_of (Cast (FragSessionStatusReq plan.now.index true)) }
+    ensures command { result ≡ Cast (FragSessionStatusReq plan.now.index true) }
+    ensures sent { IsSent 201 result }
 {
-    let command = Command::Cast(Cmd::FragSessionStatusReq {
+    Command::Cast(Cmd::FragSessionStatusReq {
         index: plan.index,
         all: true,
-    });
-    unicast(FRAGMENT_PORT, &command)
+    })
 }
 
 /// McGroupSetupReq, the group's key wrapped for the device.
-fn group_request(device: &PlanDevice, group: &PlanGroup) -> Downlink
+fn group_request(device: &PlanDevice, group: &PlanGroup) -> Command<'static>
     requires id { group.now.id ≤ max_index }
-    ensures { result ≡ unicast_of (Cast (group_request device.now group.now)) }
+    ensures command { result ≡ Cast (group_request device.now group.now) }
+    ensures sent { IsSent 200 result }
 {
     // each read here, so that the command is known to have numbers of four bytes
     let _addr = group.addr; // four bytes
     let _min = group.min; // four bytes
     let _max = group.max; // four bytes
-    let command = Command::Cast(Cmd::McGroupSetupReq {
+    Command::Cast(Cmd::McGroupSetupReq {
         id: group.id,
         addr: group.addr,
         key: wrapped(device, &group.key),
         min: group.min,
         max: group.max,
-    });
-    unicast(MULTICAST_PORT, &command)
+    })
 }
 
 /// McKey_encrypted for a device.
@@ -134,11 +122,12 @@ fn first_byte(block: &Key) -> u8 {
 
 /// FragSessionSetupReq for the image.
 #[tactic(auto, using(image_slots::proofs::ImageLemmas::image_bounds))]
-fn fragments_request(plan: &Plan, encoder: &Encoder) -> Downlink
+fn fragments_request(plan: &Plan, encoder: &Encoder) -> Command<'static>
     requires cut { IsCut plan.now encoder.now }
-    ensures { result ≡ unicast_of (Cast (fragments_request plan.now encoder.now.file)) }
+    ensures command { result ≡ Cast (fragments_request plan.now encoder.now.file) }
+    ensures sent { IsSent 201 result }
 {
-    let command = Command::Cast(Cmd::FragSessionSetupReq {
+    Command::Cast(Cmd::FragSessionSetupReq {
         index: plan.index,
         mask: mask(plan.group),
         nb_frag: encoder.nb_frag(),
@@ -147,8 +136,7 @@ fn fragments_request(plan: &Plan, encoder: &Encoder) -> Downlink
         delay: 0,
         padding: encoder.padding(),
         descriptor: firmware(encoder.file()),
-    });
-    unicast(FRAGMENT_PORT, &command)
+    })
 }
 
 /// The group may feed the session where there is one.
@@ -164,15 +152,16 @@ fn mask(group: Option<PlanGroup>) -> u8
 }
 
 /// McClassCSessionReq or McClassBSessionReq for the group with an id.
-fn window_request(id: u8, window: &PlanWindow) -> Downlink
+fn window_request(id: u8, window: &PlanWindow) -> Command<'static>
     requires id { id ≤ max_index }
     requires window { WindowFits (Some window.now) }
-    ensures { result ≡ unicast_of (Cast (window_request id window.now)) }
+    ensures command { result ≡ Cast (window_request id window.now) }
+    ensures sent { IsSent 200 result }
 {
     // each read here, so that the command is known to have numbers of its widths
     let _start = window.start; // four bytes
     let _dr = window.dr; // one byte
-    let cmd = match window.kind {
+    Command::Cast(match window.kind {
         Kind::C => Cmd::McClassCSessionReq {
             id,
             time: window.start,
@@ -188,6 +177,5 @@ fn window_request(id: u8, window: &PlanWindow) -> Downlink
             freq: window.freq,
             dr: window.dr,
         },
-    };
-    unicast(MULTICAST_PORT, &Command::Cast(cmd))
+    })
 }

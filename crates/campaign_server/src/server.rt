@@ -28,6 +28,7 @@ use crate::fragments::{
 use crate::framing::{is_to_group, keys_of};
 use crate::plan::{Field, Plan, PlanDevice};
 use crate::saving::{HEAD, RestoreError, SavedServer, read_stages, restore_error, saved_of};
+use crate::spelling::unicast;
 use crate::stage::{Request, Stage};
 use crate::time::time_answer;
 use frag_encoder::{Encoder, EncoderError};
@@ -134,9 +135,9 @@ impl Server {
         )
     }
 
-    #[tactic(auto, using(crate::proofs::SavedBytes::read_back, crate::proofs::SavedBytes::over_told))]
     /// The server whose bytes these are, with this plan and image, which is to be an image file. `BadPlan` comes as at
     /// `new`, and before `Corrupt`, which comes where no server of this plan and image has these bytes.
+    #[tactic(auto, using(crate::proofs::SavedBytes::read_back, crate::proofs::SavedBytes::over_told))]
     pub fn restore(
         alloc: Global,
         plan: Plan,
@@ -146,7 +147,8 @@ impl Server {
         requires { is_image image.now ≡ true }
         ensures ok { IfOk result (λ s. IsOver plan image.now s × (saved_of s ≡ bytes.now)) }
         ensures restored { (server : ServerState) → IsOver plan image.now server
-            → saved_of server ≡ bytes.now → (result ≡ Ok server) ⊎ (result ≡ Err RestoreError.Memory) }
+            → saved_of server ≡ bytes.now
+            → (result ≡ Ok server) ⊎ (result ≡ Err RestoreError.Memory) }
         ensures bad_plan { (field : Field) → (result ≡ Err (RestoreError.BadPlan field))
             ↔ (bad_field (length image.now) plan ≡ Some field) }
     {
@@ -195,7 +197,8 @@ impl Server {
     {
         let device = device_of(&self.plan, dev);
         let stage = numbered(&self.stages, dev);
-        request(&self.plan, &self.encoder, &device, stage)
+        let (port, command) = request(&self.plan, &self.encoder, &device, stage)?;
+        Some(unicast(port, &command))
     }
 
     /// Whether a next fragment can be sent.
