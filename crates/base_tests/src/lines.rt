@@ -1,8 +1,7 @@
 //! Lines of a script, and a stream of them in pieces.
 
-use script_lines::{
-    Campaign, Class, Cut, Form, HexBytes, Lines, MAX_HEX_BYTES, form, in_range, pair_form,
-};
+use arrayvec::ArrayVec;
+use script_lines::{Campaign, Class, Cut, Form, HexBytes, Lines, form, in_range, pair_form};
 use std::alloc::Global;
 use std::process::Abort;
 use std::test::*;
@@ -485,9 +484,9 @@ fn long_hex_words_are_read(rt: HostRuntime) {
 
 /// Whether hex digits are these bytes.
 fn are(digits: HexBytes, bytes: &[u8]) -> bool {
-    let mut spelled = [0; MAX_HEX_BYTES];
-    let count = digits.put(&mut spelled);
-    &spelled[..count] == bytes
+    let mut spelled = ArrayVec::new();
+    digits.put(&mut spelled);
+    spelled.as_slice() == bytes
 }
 
 /// Whether a line is a stranger's payload of these bytes.

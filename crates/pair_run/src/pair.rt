@@ -1,10 +1,10 @@
 //! Two campaigns as their script tells them, line by line.
 
-ghost use Rattle.std.specs.Prelude.{◌≡◌, ◌≤◌, ◌<◌, ◌+◌, ◌++◌, true, None, Some, Err, IfOk, IfErr, OnErr, OnOk, is_some, vec_len, vec_capacity};
+ghost use Rattle.std.specs.Prelude.{◌≡◌, ◌<◌, ◌+◌, true, None, Some, Err, IfOk, IfErr, OnErr, OnOk, is_some};
 ghost use Rattle.image_slots.specs.Image.{is_image};
 ghost use Rattle.script_lines.specs.Limits.{max_lines};
 ghost use Rattle.pair_run.specs.Pair.{PairState, first_pair};
-ghost use Rattle.pair_run.specs.PairMaking.{after_target, joined};
+ghost use Rattle.pair_run.specs.PairMaking.{after_target};
 ghost use Rattle.pair_run.specs.HeldTargets.{told};
 ghost use Rattle.campaign_world.specs.Causes.{has_begun, has_ended};
 
@@ -12,7 +12,7 @@ mod accepting;
 
 use crate::owners::Owner;
 use crate::report::report;
-use crate::steps::{cross, take_both, take_one};
+use crate::steps::{cross, take_both, take_own};
 use crate::targets::Whose;
 use campaign_world::{Section, World};
 use report_lines::{LineError, LineWhy, MAX_LINE, MAX_LINES, refused_behind};
@@ -194,32 +194,15 @@ impl Pair {
         ensures kept { self.new.kept ≡ self.old.kept }
         ensures ends { OnErr result (PairKeepsEnds self.old self.new) }
     {
-        match self.owners.reserve(1) {
-            Ok(()) => {}
-            Err(_) => return Err(LineError::Memory),
-        }
+        let owners = &mut self.owners;
         match whose {
             Whose::Both => take_both(&mut self.a, &mut self.b, form),
             Whose::One {
                 campaign: Campaign::A,
-            } => {
-                match take_one(&mut self.a, &mut self.b, form) {
-                    Ok(()) => {}
-                    Err(error) => return Err(error),
-                }
-                join(&mut self.owners, Campaign::A, form);
-                Ok(())
-            }
+            } => take_own(&mut self.a, &mut self.b, owners, Campaign::A, form),
             Whose::One {
                 campaign: Campaign::B,
-            } => {
-                match take_one(&mut self.b, &mut self.a, form) {
-                    Ok(()) => {}
-                    Err(error) => return Err(error),
-                }
-                join(&mut self.owners, Campaign::B, form);
-                Ok(())
-            }
+            } => take_own(&mut self.b, &mut self.a, owners, Campaign::B, form),
             Whose::Across {
                 campaign: Campaign::A,
                 number,
@@ -244,18 +227,4 @@ fn has_ended(section: Section) -> bool
     ensures { result ≡ has_ended section }
 {
     matches!(section, Section::Ended)
-}
-
-/// A device line tells whose the next device is; there is room for one.
-fn join(owners: &mut Vec<Owner>, campaign: Campaign, form: &Form)
-    requires { vec_len owners.old + 1 ≤ vec_capacity owners.old }
-    ensures { owners.new.items ≡ owners.old.items ++ joined campaign form.now }
-{
-    let Form::Device { id, .. } = form else {
-        return;
-    };
-    owners.push_reserved(Owner {
-        campaign,
-        number: *id,
-    });
 }

@@ -1,18 +1,19 @@
 //! A line that is not refused, at the two worlds: one takes it, or both, and what crosses over.
 
-ghost use Rattle.std.specs.Prelude.{◌≡◌, ◌<◌, true, Ok, OnOk, OnErr};
+ghost use Rattle.std.specs.Prelude.{◌≡◌, ◌<◌, ◌++◌, true, Ok, OnOk, OnErr};
 ghost use Rattle.wire_base.specs.Numbered.{numbered};
 ghost use Rattle.script_lines.specs.Limits.{max_lines};
 ghost use Rattle.campaign_world.specs.Said.{Own};
 ghost use Rattle.campaign_world.specs.HeldWorld.{WorldBecomes, KeepsEnds, IsFine};
 ghost use Rattle.campaign_world.specs.Script.{after_line, one_line_more};
-ghost use Rattle.pair_run.specs.PairMaking.{reached_by};
+ghost use Rattle.pair_run.specs.PairMaking.{joined, reached_by};
 ghost use Rattle.pair_run.specs.Sides.{is_quiet};
 ghost use Rattle.pair_run.specs.HeldPair.{IsCrossing};
 
+use crate::owners::Owner;
 use campaign_world::World;
 use report_lines::LineError;
-use script_lines::Form;
+use script_lines::{Campaign, Form};
 
 /// Both take a line.
 pub fn take_both(a: &mut World, b: &mut World, form: &Form) -> Result<(), LineError>
@@ -34,7 +35,7 @@ pub fn take_both(a: &mut World, b: &mut World, form: &Form) -> Result<(), LineEr
 }
 
 /// One takes a line, and it passes the other by.
-pub fn take_one(own: &mut World, other: &mut World, form: &Form) -> Result<(), LineError>
+fn take_one(own: &mut World, other: &mut World, form: &Form) -> Result<(), LineError>
     requires fine { IsFine own.old form.now }
     requires room { own.old.lines < max_lines }
     requires room_other { other.old.lines < max_lines }
@@ -46,6 +47,43 @@ pub fn take_one(own: &mut World, other: &mut World, form: &Form) -> Result<(), L
     match own.take(form) {
         Ok(()) => {
             other.pass();
+            Ok(())
+        }
+        Err(error) => Err(error),
+    }
+}
+
+/// One takes a line of its own: the device of a device line is the next owner.
+pub fn take_own(
+    own: &mut World,
+    other: &mut World,
+    owners: &mut Vec<Owner>,
+    campaign: Campaign,
+    form: &Form,
+) -> Result<(), LineError>
+    requires fine { IsFine own.old form.now }
+    requires room { own.old.lines < max_lines }
+    requires room_other { other.old.lines < max_lines }
+    ensures own { OnOk result
+        (WorldBecomes own.old own.new (λ world. after_line world (Ok (Own form.now)))) }
+    ensures other { OnOk result (WorldBecomes other.old other.new one_line_more) }
+    ensures owners { OnOk result
+        (owners.new.items ≡ owners.old.items ++ joined campaign form.now) }
+    ensures ends { OnErr result (KeepsEnds own.old own.new × KeepsEnds other.old other.new) }
+{
+    let Form::Device { id, .. } = form else {
+        return take_one(own, other, form);
+    };
+    match owners.reserve(1) {
+        Ok(()) => {}
+        Err(_) => return Err(LineError::Memory),
+    }
+    match take_one(own, other, form) {
+        Ok(()) => {
+            owners.push_reserved(Owner {
+                campaign,
+                number: *id,
+            });
             Ok(())
         }
         Err(error) => Err(error),

@@ -7,6 +7,7 @@ ghost use Rattle.pair_run.specs.Sides.{is_quiet};
 ghost use Rattle.pair_run.specs.HeldTargets.{told, number_of, owners_word, carried_word};
 
 use crate::owners::{Owner, is_same, owner_of};
+use campaign_world::World;
 use script_lines::{Campaign, Form, PairForm};
 
 /// How a payload reaches a device.
@@ -39,23 +40,21 @@ pub enum Whose {
     Nobody,
 }
 
-/// Whose a line is, after so many devices of the one and of the other. A device that it names has then the number that it has
-/// in its campaign: the form is changed where it lies, since it is larger than all else that a line needs.
+/// Whose a line is, after the devices of the one and of the other. A device that it names has then the number that it has in
+/// its campaign: the form is changed where it lies, since it is larger than all else that a line needs.
 #[tactic(auto, unfolding(crate::specs::Targets::target_of))]
-pub fn whose_of(owners: &[Owner], count_a: usize, count_b: usize, pair_form: &mut PairForm) -> Whose
-    requires a { count_a < 2 ^ 63 }
-    requires b { count_b < 2 ^ 63 }
+pub fn whose_of(owners: &[Owner], a: &World, b: &World, pair_form: &mut PairForm) -> Whose
     requires owners { length owners.now < 2 ^ 63 }
     ensures told { told result pair_form.new.form
-        ≡ target_of owners.now count_a count_b pair_form.old }
+        ≡ target_of owners.now (length a.now.devices) (length b.now.devices) pair_form.old }
     ensures quiet { result ≡ Whose.Both → is_quiet pair_form.new.form ≡ true }
 {
     let campaign = pair_form.campaign;
     let form = &mut pair_form.form;
     match campaign {
         None => whose_in_common(owners, form),
-        Some(Campaign::A) => whose_named(owners, count_a, Campaign::A, form),
-        Some(Campaign::B) => whose_named(owners, count_b, Campaign::B, form),
+        Some(Campaign::A) => whose_named(owners, a, Campaign::A, form),
+        Some(Campaign::B) => whose_named(owners, b, Campaign::B, form),
     }
 }
 
@@ -94,11 +93,11 @@ fn owners_line(owners: &[Owner], device: &mut u64) -> Whose
     }
 }
 
-/// A line that names a campaign which has so many devices.
-fn whose_named(owners: &[Owner], count: usize, campaign: Campaign, form: &mut Form) -> Whose
-    requires count { count < 2 ^ 63 }
+/// A line that names a campaign.
+fn whose_named(owners: &[Owner], world: &World, campaign: Campaign, form: &mut Form) -> Whose
     requires owners { length owners.now < 2 ^ 63 }
-    ensures told { told result form.new ≡ named_target owners.now count campaign form.old }
+    ensures told { told result form.new
+        ≡ named_target owners.now (length world.now.devices) campaign form.old }
     ensures one { result ≢ Whose.Both }
 {
     match form {
@@ -113,7 +112,7 @@ fn whose_named(owners: &[Owner], count: usize, campaign: Campaign, form: &mut Fo
             word,
         } => carried(owners, campaign, Way::Air, *number, device, *word),
         Form::Device { id, .. } => {
-            *id = count as u64 + 1;
+            *id = world.count() as u64 + 1;
             Whose::One { campaign }
         }
         _ => Whose::One { campaign },

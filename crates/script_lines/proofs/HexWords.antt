@@ -1,12 +1,13 @@
 -- Which words of hex digits are read, and how many bytes they spell.
-use Rattle.std.proofs.Common.{◌≡◌, ℕ, ◌+◌, ◌-◌, ◌*◌, ◌/◌, ◌%◌, Bool, true, false, ◌&&◌, ◌||◌, ◌==◌, nat_le, if◌then◌else◌, List, [], ◌∷◌, length, codes, None, Some, is_some, Result, Ok, Err, is_ok, refl, sym, ◌∙◌, arith}
+use Rattle.std.proofs.Common.{◌≡◌, ◌≤◌, ℕ, ◌+◌, ◌-◌, ◌*◌, ◌/◌, ◌%◌, Bool, true, false, ◌&&◌, ◌||◌, ◌==◌, nat_le, if◌then◌else◌, List, [], ◌∷◌, length, codes, None, Some, is_some, Result, Ok, Err, is_ok, refl, sym, ◌∙◌, arith}
 use Rattle.std.specs.List.{list_all}
 use Rattle.std.specs.Char.{is_ascii_hexdigit}
 use Rattle.std.specs.Str.{bytes_eq}
-use Rattle.hex.specs.Hex.{digit_or_error, value_at, decode_pairs, decode_of, ◌>>=◌}
+use Rattle.hex.specs.Hex.{digit_or_error, value_at, decode_pairs, decode_of, decode_sized, ◌>>=◌}
 use Rattle.hex.specs.declared.error.FromHexError.{FromHexError}
-use Rattle.hex.specs.declared.error.FromHexError.TheVariants.{OddLength}
+use Rattle.hex.specs.declared.error.FromHexError.TheVariants.{OddLength, InvalidStringLength}
 use Rattle.std.proofs.lemmas.Bool.Decides.{nat_tests}
+use Rattle.script_lines.specs.Limits.{max_hex_bytes}
 use Rattle.script_lines.specs.Numbers.{read_part, is_hex_word, hex_bytes_of, bytes_in}
 
 -- a digit has a value exactly where it is one
@@ -46,6 +47,10 @@ pairs_read i (a ∷ b ∷ rest) even =
 read_is_ok : {A E : Type 0} (r : Result A E) → is_some (read_part r) ≡ is_ok r
 read_is_ok (Ok x) = refl
 read_is_ok (Err e) = refl
+
+read_all : (r : Result (List ℕ) FromHexError) → is_some (read_part r) ≡ true → r ≡ Ok (bytes_in (read_part r))
+read_all (Ok x) some = refl
+read_all (Err e) some = absurd cc
 
 -- so an even number of digits is read where each is one
 pub even_read : (ds : List ℕ) → length ds % 2 ≡ 0 → list_all is_ascii_hexdigit ds ≡ is_some (read_part (decode_of ds))
@@ -100,3 +105,33 @@ pub digits_long : (w : List ℕ) → bytes_eq w (codes "-") ≡ false → is_som
     → length w / 2 ≡ length (bytes_in (hex_bytes_of w))
 unfolding hex_bytes_of
 digits_long w dash = rw (dash) (λ some. word_long w (is_hex_word w) some)
+
+few_by : (w : List ℕ) (b : Bool) → is_hex_word w ≡ b → is_some (if b then read_part (decode_of w) else None) ≡ true → length w / 2 ≤ max_hex_bytes
+few_by w true is some = let few : length w ≤ 600 = grind (arith, nat_tests, is) in omega (arith, few)
+few_by w false is some = absurd cc
+
+-- no more than there is room for
+pub few_bytes : (w : List ℕ) → bytes_eq w (codes "-") ≡ false → is_some (hex_bytes_of w) ≡ true → length w / 2 ≤ max_hex_bytes
+unfolding hex_bytes_of
+few_bytes w dash = rw (dash) (λ some. few_by w (is_hex_word w) refl some)
+
+-- ---- over as many bytes
+
+sized_by : (w : List ℕ) (odd : Bool) (n : ℕ) → is_some (read_part (if odd then Err OddLength else decode_pairs 0 w)) ≡ true → length w / 2 ≡ n
+    → (if odd then Err OddLength else if length w / 2 == n then decode_pairs 0 w else Err InvalidStringLength)
+    ≡ Ok (bytes_in (read_part (if odd then Err OddLength else decode_pairs 0 w)))
+sized_by w true n some is = absurd cc
+sized_by w false n some is =
+    let same : (length w / 2 == n) ≡ true = grind (arith, nat_tests, is) in
+    rw (same) (read_all (decode_pairs 0 w) some)
+
+sized_word : (w : List ℕ) (b : Bool) (n : ℕ) → is_some (if b then read_part (decode_of w) else None) ≡ true → length w / 2 ≡ n
+    → decode_sized w n ≡ Ok (bytes_in (if b then read_part (decode_of w) else None))
+sized_word w true n some is = sized_by w (length w % 2 == 1) n some is
+sized_word w false n some is = absurd cc
+
+-- a word of digits is decoded over as many bytes as it spells
+pub sized : (w : List ℕ) (n : ℕ) → bytes_eq w (codes "-") ≡ false → is_some (hex_bytes_of w) ≡ true → length w / 2 ≡ n
+    → decode_sized w n ≡ Ok (bytes_in (hex_bytes_of w))
+unfolding hex_bytes_of
+sized w n dash = rw (dash) (λ some is. sized_word w (is_hex_word w) n some is)

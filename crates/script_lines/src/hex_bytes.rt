@@ -1,18 +1,22 @@
 //! The bytes that a word of hex digits spells.
 
-ghost use Rattle.std.specs.Prelude.{◌≡◌, ◌≤◌, length, take, codes, None, Some, MatchOption, is_some};
+ghost use Rattle.std.specs.Prelude.{◌≡◌, ◌≤◌, length, codes, is_some, true};
 ghost use Rattle.std.specs.Str.{bytes_eq};
 ghost use Rattle.std.specs.List.{list_all};
 ghost use Rattle.std.specs.Char.{is_ascii_hexdigit};
 ghost use Rattle.hex.specs.Hex.{decode_of};
-ghost use Rattle.script_lines.specs.Numbers.{hex_bytes_of, read_part};
+ghost use Rattle.script_lines.specs.Numbers.{hex_bytes_of, bytes_in, read_part};
 ghost use Rattle.script_lines.specs.Limits.{max_hex_bytes};
 
 use crate::numbers::is_hex_word;
+use arrayvec::ArrayVec;
 use std::marker::Model;
 
 /// The most bytes that a word spells: two digits each, in a line of at most 600.
 pub const MAX_HEX_BYTES: usize = 300;
+
+/// Room for the bytes of a word before they are read.
+static ZEROS: [u8; MAX_HEX_BYTES] = [0; MAX_HEX_BYTES];
 
 /// A word of hex digits, or `-`, where it stands in its line. Contracts see the bytes that it spells, at most
 /// `MAX_HEX_BYTES`.
@@ -47,7 +51,8 @@ impl<'a> HexBytes<'a> {
 
     /// How many bytes there are.
     pub fn len(&self) -> usize
-        ensures { result ≡ length self.now }
+        ensures count { result ≡ length self.now }
+        ensures few { result ≤ max_hex_bytes }
     {
         if is_dash(self.word) {
             0
@@ -56,16 +61,13 @@ impl<'a> HexBytes<'a> {
         }
     }
 
-    /// Writes the bytes to the front of `out`, and says how many they are.
-    pub fn put(&self, out: &mut [u8; MAX_HEX_BYTES]) -> usize
-        ensures bytes { take result out.new ≡ self.now }
-        ensures count { result ≡ length self.now }
-        ensures few { result ≤ max_hex_bytes }
+    /// Makes these bytes all that `out` has.
+    pub fn put(&self, out: &mut ArrayVec<u8, MAX_HEX_BYTES>)
+        ensures { out.new.items ≡ self.now }
     {
-        match spell(self.word, out) {
-            Some(count) => count,
-            None => unreachable!(),
-        }
+        out.clear();
+        out.try_extend_from_slice(&ZEROS[..self.len()]).unwrap();
+        spell(self.word, out.as_mut_slice());
     }
 }
 
@@ -97,23 +99,16 @@ fn are_hex_digits(bytes: &[u8]) -> bool
     bytes.iter().all(|b| b.is_ascii_hexdigit())
 }
 
-/// Writes the bytes that a word spells to the front of `out`, and says how many they are; None where it spells none.
+/// Writes the bytes that a word spells over as many.
 #[tactic(auto, unfolding(crate::specs::Numbers::hex_bytes_of))]
-fn spell(word: &[u8], out: &mut [u8]) -> Option<usize>
-    requires { length out.old ≡ max_hex_bytes }
-    ensures spelled { MatchOption result (hex_bytes_of word.now ≡ None)
-        (λ n. hex_bytes_of word.now ≡ Some (take n out.new)) }
-    ensures few { MatchOption result (hex_bytes_of word.now ≡ None) (λ n. n ≤ max_hex_bytes) }
+fn spell(word: &[u8], out: &mut [u8])
+    requires spells { is_some (hex_bytes_of word.now) ≡ true }
+    requires room { length out.old ≡ length (bytes_in (hex_bytes_of word.now)) }
+    ensures { out.new ≡ bytes_in (hex_bytes_of word.now) }
 {
     if is_dash(word) {
-        return Some(0);
+        return;
     }
-    if !is_hex_word(word) {
-        return None;
-    }
-    let count = word.len() / 2;
-    match hex::decode_to_slice(word, &mut out[..count]) {
-        Ok(()) => Some(count),
-        Err(_) => None,
-    }
+    // (any other word spells them by its digits)
+    hex::decode_to_slice(word, out).unwrap();
 }

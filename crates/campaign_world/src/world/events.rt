@@ -22,10 +22,11 @@ use crate::logs::{SentLog, UplinkLog};
 use crate::report::{device_part, report};
 use crate::summary::summary;
 use crate::uplink_ref::UplinkRef;
+use arrayvec::ArrayVec;
 use campaign_server::Server;
 use device_core::Moment;
 use package_grammar::{DownlinkRef, To};
-use script_lines::{Form, HexBytes, MAX_HEX_BYTES};
+use script_lines::{Form, HexBytes};
 use std::alloc::{AllocError, Global};
 use std::marker::Model;
 
@@ -255,9 +256,9 @@ impl Campaign {
             (Some (Receives world.time word (world.lines + 1) (raw_down port payload.now)))) }
         ensures ends { OnErr result (SameEnds self.old self.new) }
     {
-        let mut bytes = [0; MAX_HEX_BYTES];
-        let count = payload.put(&mut bytes);
-        let down = DownlinkRef::new(To::Unicast, port, &bytes[..count]);
+        let mut bytes = ArrayVec::new();
+        payload.put(&mut bytes);
+        let down = DownlinkRef::new(To::Unicast, port, bytes.as_slice());
         self.raw(lines, device, &down, word)
     }
 
@@ -294,9 +295,9 @@ impl Campaign {
             (Some (HearsBytes world.time word (world.lines + 1) bytes.now))) }
         ensures ends { OnErr result (SameEnds self.old self.new) }
     {
-        let mut spelled = [0; MAX_HEX_BYTES];
-        let count = bytes.put(&mut spelled);
-        self.hear(lines, device, &spelled[..count], word)
+        let mut spelled = ArrayVec::new();
+        bytes.put(&mut spelled);
+        self.hear(lines, device, spelled.as_slice(), word)
     }
 
     /// Bytes reach the radio of a device.

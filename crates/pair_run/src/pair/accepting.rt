@@ -32,7 +32,7 @@ impl Pair {
             return Err(why);
         }
         let owners: &[Owner] = &self.owners;
-        let whose = whose_of(owners, self.a.count(), self.b.count(), pair_form);
+        let whose = whose_of(owners, &self.a, &self.b, pair_form);
         match self.target_cause(whose, &pair_form.form) {
             Some(why) => Err(why),
             None => Ok(whose),

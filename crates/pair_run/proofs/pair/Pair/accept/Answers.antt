@@ -1,4 +1,4 @@
-use Rattle.std.proofs.Common.{◌≡◌, List, Some, None, length, ◌∙◌, sym}
+use Rattle.std.proofs.Common.{refl, ◌≡◌, List, Some, None, length, ◌∙◌, sym}
 use Rattle.device_core.specs.Device.{DeviceState}
 use Rattle.pair_run.specs.PairCauses.{target_in}
 use Rattle.pair_run.specs.HeldPair.{pair_of}
@@ -15,7 +15,7 @@ returns-in-None-clause-target c =
     let same : (a b : List DeviceState) → length a ≡ length c.args.self.now.a.devices → length b ≡ length c.args.self.now.b.devices
     → told c.whose_of-whose.result c.whose_of-whose.new.pair_form.form ≡ target_in (pair_of c.args.self.now a b) c.args.pair_form.now = λ a b count_a count_b.
     target_is c.args.self.now a b _ _ _ c.args.pair_form.now (told c.whose_of-whose.result c.whose_of-whose.new.pair_form.form) c.whose_of-whose.ensures.told
-    (rw (← c.self.view_is) c.deref-owners.ensures.value) (rw (← c.self.view_is) c.count.ensures.count) (rw (← c.self.view_is) c.count-2.ensures.count) count_a count_b in
+    (rw (← c.self.view_is) c.deref-owners.ensures.value) (rw (← c.self.view_is) refl) (rw (← c.self.view_is) refl) count_a count_b in
     record {
       unrefused = λ a b count_a count_b.
           then_target (pair_of c.args.self.now a b) c.args.pair_form.now (told c.whose_of-whose.result c.whose_of-whose.new.pair_form.form) None
