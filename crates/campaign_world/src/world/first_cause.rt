@@ -202,7 +202,8 @@ fn is_for(campaign: Option<&Campaign>, number: u64, device: u64) -> bool
 
 /// Whether a sent payload goes out as a frame.
 fn has_frame(campaign: Option<&Campaign>, number: u64) -> bool
-    ensures { result ≡ goes_out (numbered (sent_of (option_map (λ c. c.now) campaign.entry)) number) }
+    ensures { result
+        ≡ goes_out (numbered (sent_of (option_map (λ c. c.now) campaign.entry)) number) }
 {
     match campaign {
         Some(campaign) => goes_out(&campaign.sent, number),

@@ -189,7 +189,8 @@ impl Planning {
         requires indexed { index ≤ 3 }
         ensures planning { IsPlanningOf self.new }
         ensures taken { PlanBecomes self.old self.new (λ world. with_plan world
-            (record world.server.plan { frag_size = frag_size; parity = parity; index = index }) section.Group) }
+            (record world.server.plan { frag_size = frag_size; parity = parity; index = index })
+            section.Group) }
     {
         self.plan.frag_size = frag_size;
         self.plan.parity = parity;
