@@ -9,4 +9,4 @@ pub returns-clause-taken : goal.returns-clause-taken
 returns-clause-taken c =
     subst (λ (d : Downlink). Plays c.args.lines c.args.self.now c.raw.new.self c.raw.result
     (λ world. with_event world c.args.device (Some (Receives world.time c.args.word (world.lines + 1) d))))
-    (c.new-down.ensures ∙ ap (λ (payload : List ℕ). raw_down c.args.port payload) c.put-count.ensures.bytes) c.raw.ensures.taken
+    (c.new-down.ensures ∙ ap (λ (payload : List ℕ). raw_down c.args.port payload) (c.as_slice.ensures.value ∙ c.put.ensures)) c.raw.ensures.taken
