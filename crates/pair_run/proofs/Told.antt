@@ -1,11 +1,10 @@
 -- What a form says to both campaigns.
-use Rattle.std.proofs.Common.{◌≡◌, List, [], true, refl}
+use Rattle.std.proofs.Common.{◌≡◌, [], true, refl}
 use Rattle.script_lines.specs.declared.forms.Campaign.{Campaign}
 use Rattle.script_lines.specs.declared.forms.Form.{Form}
 use Rattle.script_lines.specs.declared.forms.Form.TheVariants as form
 use Rattle.campaign_world.specs.Said.{Own}
 use Rattle.campaign_world.specs.HeldWorld.{IsFine}
-use Rattle.pair_run.specs.declared.owners.Owner.{Owner}
 use Rattle.pair_run.specs.Pair.{PairState}
 use Rattle.pair_run.specs.Sides.{is_quiet}
 use Rattle.pair_run.specs.PairCauses.{both_cause, target_cause}

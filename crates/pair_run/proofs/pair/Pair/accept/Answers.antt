@@ -1,4 +1,4 @@
-use Rattle.std.proofs.Common.{refl, ◌≡◌, List, Some, None, length, ◌∙◌, sym}
+use Rattle.std.proofs.Common.{refl, ◌≡◌, List, None, length, ◌∙◌, sym}
 use Rattle.device_core.specs.Device.{DeviceState}
 use Rattle.pair_run.specs.PairCauses.{target_in}
 use Rattle.pair_run.specs.HeldPair.{pair_of}
