@@ -54,10 +54,10 @@ record IsCounted (w : WorldState) : Type 0 where
 -- ---- an event
 
 -- the devices are as many, and there is a stage for each
-record IsAsMany (w v : WorldState) : Type 0 where
-  devices : length v.devices ≡ length w.devices
-  stages : length v.server.stages ≡ length w.server.stages
-  planned : length v.server.plan.devices ≡ length w.server.plan.devices
+pub record IsAsMany (w v : WorldState) : Type 0 where
+  pub devices : length v.devices ≡ length w.devices
+  pub stages : length v.server.stages ≡ length w.server.stages
+  pub planned : length v.server.plan.devices ≡ length w.server.plan.devices
 
 as_many : (w v : WorldState) → IsEven w.server w.devices → IsAsMany w v → IsEven v.server v.devices
 as_many w v k m = record {
@@ -65,7 +65,7 @@ as_many w v k m = record {
   planned = m.planned ∙ k.planned ∙ sym m.devices;
 }
 
-sent_many : (w : WorldState) (server : ServerState) (to : Option ℕ) (down : Option DownlinkCommand)
+pub sent_many : (w : WorldState) (server : ServerState) (to : Option ℕ) (down : Option DownlinkCommand)
     → length server.stages ≡ length w.server.stages → length server.plan.devices ≡ length w.server.plan.devices
     → IsAsMany w (with_sent (record w { server = server }) to down)
 sent_many w server to None stages planned = record { devices = refl; stages = stages; planned = planned }
@@ -75,7 +75,7 @@ device_many : (w : WorldState) (n : ℕ) (d : DeviceState) → IsAsMany w (with_
 unfolding with_device
 device_many w n d = record { devices = length-set w.devices (n - 1) _; stages = refl; planned = refl }
 
-event_many : (w : WorldState) (n : ℕ) (d : Option DeviceState) (o : Option Event) → IsAsMany w (after_event_at w n d o)
+pub event_many : (w : WorldState) (n : ℕ) (d : Option DeviceState) (o : Option Event) → IsAsMany w (after_event_at w n d o)
 event_many w n None o = record { devices = refl; stages = refl; planned = refl }
 event_many w n (Some d) None = record { devices = refl; stages = refl; planned = refl }
 event_many w n (Some d) (Some e) = device_many w n (event_step d e)
@@ -114,7 +114,7 @@ read_many w dev t (Ok cs) =
     sent_many w (with_answers w.server dev cs (ledger w.server dev)) (Some dev) _ m.0 m.1
 read_many w dev t (Err refusal) = record { devices = refl; stages = refl; planned = refl }
 
-up_many : (w : WorldState) (o : Option NumberedUplink) → IsAsMany w (after_up w o)
+pub up_many : (w : WorldState) (o : Option NumberedUplink) → IsAsMany w (after_up w o)
 unfolding uplink_step
 up_many w None = record { devices = refl; stages = refl; planned = refl }
 up_many w (Some made) =

@@ -8,12 +8,15 @@ use Rattle.pair_run.specs.Pair.{PairState}
 use Rattle.pair_run.proofs.ReadAlone.{reads_alone}
 use Rattle.pair_laws.specs.EachCampaign.{IsSessionOf}
 use Rattle.pair_laws.proofs.EachCampaign.{verdicts, devices}
+use Rattle.isolation_laws.proofs.EachHeadline.{headlines}
+use Rattle.isolation_laws.proofs.Placed.{reported}
+use Rattle.isolation_laws.proofs.Alone.{isolated}
 use Rattle.fuota_run.specs.declared.status.Status.{Status}
 use Rattle.fuota_run.specs.Outside.{Held}
 use Rattle.fuota_run.specs.Words.{Invocation}
 use Rattle.fuota_run.specs.Answer.{pair_answer, pair_script_answer, campaigns_answer, IsAnswerTo, IsAnswer}
 use Rattle.fuota_run.specs.Ending.{AppendsAnswer}
-use Rattle.fuota_run.specs.PairHeadline.{IsPairAnswered, IsVerdictOfTwo, AreTwoCampaigns, IsPairRun}
+use Rattle.fuota_run.specs.PairHeadline.{IsPairAnswered, IsVerdictOfTwo, AreTwoCampaigns, AreTwoApart, IsPairRun}
 use Rattle.fuota_run.proofs.RunHeadline.{written}
 
 pub answered : IsPairAnswered
@@ -47,9 +50,27 @@ two_campaigns x image_a image_b script pair is = record {
   verdicts = λ id device index s its. session_verdict x image_a image_b script pair id device index s its;
 }
 
+pub apart : AreTwoApart
+apart x image_a image_b script pair s = record {
+  one = λ id device there. headlines.one x image_a image_b (lines_of script) pair id device s there;
+  headline = λ id stage device session has. record {
+    served = headlines.served x image_a image_b (lines_of script) pair id stage device session has;
+    brought = headlines.brought x image_a image_b (lines_of script) pair id stage device session has;
+    recovered = headlines.recovered x image_a image_b (lines_of script) pair id stage device session has;
+    told = headlines.reported x image_a image_b (lines_of script) pair id stage device session has;
+  };
+  placed = λ number device there. reported x image_a image_b (lines_of script) pair number device s there;
+  isolated = isolated x image_a image_b (lines_of script) pair s;
+}
+
 pub pair_run : (words : List (List ℕ)) (held : Held) (s : Status) (old new : Option (List ℕ)) → AppendsAnswer (Some held) words s old new
     → IsPairRun words held s old new
 pair_run words held s old new given image_a image_b script pair handed accepted =
     let here = written words held s old new (pair_answer pair) given
     (answered words held image_a image_b script pair handed accepted) in
-    record { done = here.0; report = here.1; each = λ x. two_campaigns x image_a image_b script pair accepted }
+    record {
+      done = here.0;
+      report = here.1;
+      each = λ x. two_campaigns x image_a image_b script pair accepted;
+      apart = λ x a b. apart x image_a image_b script pair (record { bytes_a = a; bytes_b = b; accepted = accepted });
+    }

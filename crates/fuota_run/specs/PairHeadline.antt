@@ -1,6 +1,6 @@
 -- The program answers two campaigns of one script with the report of both, and of each holds what holds of one campaign,
 -- over what the lines say to it. (This project's profile.)
-use Rattle.std.specs.Prelude.{◌≡◌, ℕ, ◌≤◌, List, length, true, Option, Some, Ok}
+use Rattle.std.specs.Prelude.{◌≡◌, ℕ, ◌^◌, ◌<◌, ◌≤◌, List, length, All, true, Option, Some, Ok}
 use Rattle.std.specs.Io.KnownBytes.{Appends}
 use Rattle.image_slots.specs.Image.{is_image}
 use Rattle.wire_base.specs.Numbered.{numbered}
@@ -10,8 +10,11 @@ use Rattle.device_core.specs.Device.{DeviceState}
 use Rattle.device_core.specs.Events.{CameInTurn}
 use Rattle.script_lines.specs.declared.forms.Campaign.{Campaign}
 use Rattle.script_lines.specs.Lines.{lines_of}
+use Rattle.campaign_server.specs.declared.stage.Stage.{Stage}
+use Rattle.campaign_world.specs.World.{WorldState}
 use Rattle.campaign_world.specs.Said.{Line}
 use Rattle.campaign_world.specs.Script.{campaign_of}
+use Rattle.campaign_laws.specs.Headline.{HasNoOther, IsServed, HearsBrought, IsRecovered}
 use Rattle.campaign_laws.specs.Verdicts.{Carries}
 use Rattle.campaign_laws.specs.Independence.{own_record}
 use Rattle.pair_run.specs.Pair.{PairState, side}
@@ -19,6 +22,9 @@ use Rattle.pair_run.specs.PairLines.{image_of}
 use Rattle.pair_run.specs.PairScript.{campaigns_in}
 use Rattle.pair_run.specs.PairReport.{pair_report_of}
 use Rattle.pair_laws.specs.EachCampaign.{own_lines, IsSessionOf}
+use Rattle.isolation_laws.specs.EachHeadline.{HasSession, IsToldOf}
+use Rattle.isolation_laws.specs.Isolation.{IsScriptOfTwo, IsAlone, lines_alone}
+use Rattle.isolation_laws.specs.PairTold.{IsPlaced}
 use Rattle.fuota_run.specs.declared.status.Status.{Status}
 use Rattle.fuota_run.specs.declared.status.Status.TheVariants as status
 use Rattle.fuota_run.specs.Outside.{Held}
@@ -78,12 +84,46 @@ abbrev pub AreTwoCampaigns : Type 0
 AreTwoCampaigns = (x : Campaign) (image_a image_b script : List ℕ) (pair : PairState)
     → campaigns_in image_a image_b script ≡ Ok pair → IsOneOfTwo x image_a image_b script pair
 
+-- what is said of a device of one of the two that has its campaign's session
+pub record IsHeadlineOfTwo (x : Campaign) (image_a image_b script : List ℕ) (pair : PairState) (id : ℕ) (stage : Stage) (device : DeviceState)
+    (session : Session) : Type 0 where
+  -- the session is the one for its own campaign's image, and hears nothing but what the lines bring it
+  pub served : IsServed (image_of x image_a image_b) (side pair x).server device.config.rows session
+  pub brought : HearsBrought (image_of x image_a image_b) (lines_for x image_a image_b script) (side pair x) id session
+  -- it is complete from the first heard fragment on after which one file alone fits, that image, unless its rows do not suffice first
+  pub recovered : IsRecovered (image_of x image_a image_b) session
+  -- and the device's lines in the report say so
+  pub told : IsToldOf x (image_of x image_a image_b) pair id stage device session
+
+-- what is said of a campaign of the two beside the other
+pub record IsApartOfTwo (x : Campaign) (image_a image_b script : List ℕ) (pair : PairState) : Type 0 where
+  -- a device has no session but its own campaign's
+  pub one : (id : ℕ) (device : DeviceState) → numbered (side pair x).devices id ≡ Some device
+      → HasNoOther (side pair x).server.plan.index device.sessions
+  -- which has the headline
+  pub headline : (id : ℕ) (stage : Stage) (device : DeviceState) (session : Session)
+      → HasSession x image_a image_b (lines_of script) pair id stage device session
+      → IsHeadlineOfTwo x image_a image_b script pair id stage device session
+  -- each of its devices has an ID in the script, and its lines stand in the report in that place
+  pub placed : (number : ℕ) (device : DeviceState) → numbered (side pair x).devices number ≡ Some device
+      → (id : ℕ) × IsPlaced x pair number id
+  -- and nothing that the other sends changes more of it than the counters of its devices
+  pub isolated : (alone : WorldState)
+      × IsAlone (image_of x image_a image_b) (lines_alone x image_a image_b (lines_of script)) (side pair x) alone
+
+-- so is each of any two campaigns that are accepted, whose images are bytes
+abbrev pub AreTwoApart : Type 0
+AreTwoApart = (x : Campaign) (image_a image_b script : List ℕ) (pair : PairState)
+    → IsScriptOfTwo image_a image_b (lines_of script) pair → IsApartOfTwo x image_a image_b script pair
+
 -- the whole report of both was appended, and each is such a campaign
 pub record IsPairWritten (image_a image_b script : List ℕ) (pair : PairState) (s : Status) (old new : Option (List ℕ))
     : Type 0 where
   pub done : s ≡ status.Done
   pub report : Appends old new (pair_report_of pair)
   pub each : (x : Campaign) → IsOneOfTwo x image_a image_b script pair
+  pub apart : (x : Campaign) → All (λ b. b < 2 ^ 8) image_a → All (λ b. b < 2 ^ 8) image_b
+      → IsApartOfTwo x image_a image_b script pair
 
 -- so it is of whatever two images and accepted script the words ask for
 abbrev pub IsPairRun : List (List ℕ) → Held → Status → Option (List ℕ) → Option (List ℕ) → Type 0

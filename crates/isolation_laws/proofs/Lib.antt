@@ -8,6 +8,8 @@ pub mod Goes
 pub mod Alike
 pub mod Alone
 pub mod EachHeadline
+pub mod Placed
+pub mod GroupsApart
 pub mod Naming
 pub mod Whose
 pub mod Close

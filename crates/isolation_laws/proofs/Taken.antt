@@ -326,11 +326,11 @@ target_apart : (a b : Section) (plan : Plan) (owners : List Owner) (count_a coun
 target_apart a b plan owners count_a count_b None f may apart = common_apart a plan owners f
 target_apart a b plan owners count_a count_b (Some x) f may apart = named_apart a b plan owners _ x f may apart
 
-record Common (pair : PairState) (pair_form : PairForm) : Type 0 where
-  comes : pair_may_come pair.a.section pair.b.section pair_form.campaign pair_form.form ≡ true
-  apart : is_apart pair.a.server.plan pair_form.campaign pair_form.form ≡ true
+pub record Common (pair : PairState) (pair_form : PairForm) : Type 0 where
+  pub comes : pair_may_come pair.a.section pair.b.section pair_form.campaign pair_form.form ≡ true
+  pub apart : is_apart pair.a.server.plan pair_form.campaign pair_form.form ≡ true
 
-common_passed : (pair : PairState) (pair_form : PairForm) → common_cause pair pair_form ≡ None → Common pair pair_form
+pub common_passed : (pair : PairState) (pair_form : PairForm) → common_cause pair pair_form ≡ None → Common pair pair_form
 unfolding common_cause
 common_passed pair pair_form none =
     let one = cut_cause (pair_may_come pair.a.section pair.b.section pair_form.campaign pair_form.form) why.Order _ none in

@@ -1,4 +1,6 @@
 pub mod Isolation
 pub mod EachHeadline
+pub mod PairTold
+pub mod CrossingFrames
 pub mod AtMoments
 pub mod WorkedMoments

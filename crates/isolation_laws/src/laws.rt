@@ -1,7 +1,9 @@
 //! Laws about the definitions, each the contract of a function that does nothing.
 
 ghost use Rattle.isolation_laws.specs.AtMoments.{OthersEventsAreMoments, ScriptsAreIsolated};
+ghost use Rattle.isolation_laws.specs.CrossingFrames.{FramesCrossInScripts};
 ghost use Rattle.isolation_laws.specs.EachHeadline.{EachHasItsHeadline, EachLedgerIsTrue, EachSessionLives};
+ghost use Rattle.isolation_laws.specs.PairTold.{EachIsReported};
 ghost use Rattle.isolation_laws.specs.WorkedMoments.{AreAtTheirMoments};
 ghost use Rattle.isolation_laws.specs.Isolation.{CampaignsAreIsolated, NoOtherCampaignMatters};
 
@@ -58,4 +60,17 @@ pub fn each_ledger_is_true()
 /// its session.
 pub fn each_session_lives()
     ensures { EachSessionLives }
+{}
+
+/// Whatever two images and accepted script there are: each device of either campaign has an ID in the script, and the report of
+/// both has its lines in the place of that ID.
+#[tactic(auto, using(crate::proofs::Placed::reported))]
+pub fn each_device_is_reported()
+    ensures { EachIsReported }
+{}
+
+/// In every accepted script of two: the frame of a payload that goes on the air to a device of the other campaign makes of it what
+/// the payload makes, since no group that the device has has that address.
+pub fn frames_cross_in_scripts()
+    ensures { FramesCrossInScripts }
 {}

@@ -6,7 +6,7 @@
 mod laws;
 
 pub use laws::{
-    campaigns_are_isolated, each_campaign_has_its_headline, each_ledger_is_true,
-    each_session_lives, no_other_campaign_matters, others_events_are_moments, scripts_are_isolated,
-    worked_moments,
+    campaigns_are_isolated, each_campaign_has_its_headline, each_device_is_reported,
+    each_ledger_is_true, each_session_lives, frames_cross_in_scripts, no_other_campaign_matters,
+    others_events_are_moments, scripts_are_isolated, worked_moments,
 };
