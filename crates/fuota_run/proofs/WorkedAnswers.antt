@@ -1,7 +1,8 @@
 -- Answers worked out.
 use Rattle.std.proofs.Common.{refl}
 use Rattle.std.specs.Fmt.{digits}
-use Rattle.fuota_run.specs.WorkedAnswers.{AreAnswers}
+use Rattle.fuota_run.specs.Answer.{campaigns_answer}
+use Rattle.fuota_run.specs.WorkedAnswers.{AreAnswers, AreInOrder}
 
 pub answers_are : AreAnswers
 unfolding digits
@@ -25,4 +26,13 @@ answers_are = record {
   receiving_said = refl;
   no_rows_said = refl;
   conflict_said = refl;
+}
+
+pub in_order : AreInOrder
+unfolding campaigns_answer
+in_order = record {
+  first_missing = λ b script. refl;
+  first_refused = λ a b script fits bad. rw (fits, bad) refl;
+  second_missing = λ a script fits good. rw (fits, good) refl;
+  second_refused = λ a b script fits good its bad. rw (fits, good, its, bad) refl;
 }

@@ -2,9 +2,9 @@
 
 ghost use Rattle.fuota_run.specs.Answer.{HasAnAnswer, HasOneAnswer};
 ghost use Rattle.fuota_run.specs.Forms.{NamesAreWords, OtherCountsAreNone, WordsAreForms};
-ghost use Rattle.fuota_run.specs.WorkedAnswers.{AreAnswers};
+ghost use Rattle.fuota_run.specs.WorkedAnswers.{AreAnswers, AreInOrder};
 ghost use Rattle.fuota_run.specs.Headline.{IsCaptureAnswered, IsRecoveryAnswered, IsReplayAnswered, IsReportAnswered, IsSeedAnswered};
-ghost use Rattle.fuota_run.specs.PairHeadline.{AreTwoCampaigns, IsPairAnswered};
+ghost use Rattle.fuota_run.specs.PairHeadline.{AreTwoCampaigns, AreTwoApart, IsPairAnswered};
 
 /// Whatever image and accepted script are handed in, the answer is the report of that campaign, of which the headline of
 /// `campaign_laws` speaks.
@@ -42,6 +42,7 @@ pub fn seeds_are_summed_up()
 pub fn pair_is_answered()
     ensures answered { IsPairAnswered }
     ensures each { AreTwoCampaigns }
+    ensures apart { AreTwoApart }
 {}
 
 /// Words have one answer over the files that are held: one status, and one text.
@@ -65,7 +66,9 @@ pub fn names_are_words()
     ensures { NamesAreWords }
 {}
 
-/// Answers that are worked out are these: the number of each status, and what is written with it.
+/// Answers that are worked out are these: the number of each status, and what is written with it; and of two images and a script
+/// the first that is refused is told of.
 pub fn worked_answers()
-    ensures { AreAnswers }
+    ensures answers { AreAnswers }
+    ensures order { AreInOrder }
 {}

@@ -97,7 +97,10 @@ impl Pair {
     fn fits_flash(&self, form: &Form) -> bool
         ensures { result ≡ fits_flash (length self.now.a.flash + length self.now.b.flash) form.now }
     {
-        fits_flash(self.a.flash_count() + self.b.flash_count(), form)
+        match form {
+            Form::Device { .. } => { fits_flash(self.a.flash_count() + self.b.flash_count(), form) }
+            _ => true,
+        }
     }
 
     /// The first cause in the campaign whose the line is.

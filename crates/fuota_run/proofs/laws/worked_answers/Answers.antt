@@ -1,5 +1,5 @@
-use Rattle.fuota_run.proofs.WorkedAnswers.{answers_are}
+use Rattle.fuota_run.proofs.WorkedAnswers.{answers_are, in_order}
 use Rattle.fuota_run.proofs.laws.worked_answers.Goals as goal
 
 pub returns : goal.returns
-returns c = answers_are
+returns c = record { answers = answers_are; order = in_order }
