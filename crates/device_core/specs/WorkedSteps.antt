@@ -1,14 +1,20 @@
 -- Steps of a device that are worked out: what comes to it, in bytes, and what it then sends and holds.
-use Rattle.std.specs.Prelude.{◌≡◌, ℕ, ◌-◌, ◌^◌, true, false, List, [], ◌∷◌, ◌++◌, length, map, Option, Some, None, replicate}
+use Rattle.std.specs.Prelude.{◌≡◌, ℕ, ◌-◌, ◌^◌, true, false, List, [], ◌∷◌, ◌++◌, length, map, drop, Option, Some, None, Err, replicate}
 use Rattle.wire_base.specs.declared.refusal.Why.TheVariants as why
 use Rattle.package_grammar.specs.declared.downlink.To.TheVariants.{Unicast, Group}
 use Rattle.mc_keys.specs.declared.root_kind.RootKind.TheVariants.{V10, V11}
 use Rattle.mc_keys.specs.WorkedKeys.{worked_gen_app_key, worked_wrapped, worked_key}
 use Rattle.frag_session.specs.declared.answers.Via.TheVariants as via
 use Rattle.frag_session.specs.declared.answers.StatusAns.{StatusAns}
+use Rattle.frag_session.specs.Session.{Session}
+use Rattle.session_store.specs.declared.state.CompleteFlags.{CompleteFlags}
+use Rattle.session_store.specs.CompleteFlags.{none_complete}
+use Rattle.device_core.specs.SessionTable.{SessionTable, no_sessions}
 use Rattle.image_slots.specs.declared.view.ImageState.{ImageState}
 use Rattle.image_slots.specs.declared.view.ImageState.TheVariants as image
-use Rattle.device_core.specs.Radio.{session_keys}
+use Rattle.mc_frames.specs.declared.fault.FrameFault.TheVariants.{Short, Long, Header, Address}
+use Rattle.device_core.specs.Radio.{session_keys, heard_group, brought_to, radio}
+use Rattle.device_core.specs.Power.{after_power}
 use Rattle.device_core.specs.declared.arrival.Arrival.{Arrival}
 use Rattle.device_core.specs.declared.class_session.ClassSession.{ClassSession}
 use Rattle.device_core.specs.declared.class_session.Kind.TheVariants.{ClassC, ClassB}
@@ -18,13 +24,15 @@ use Rattle.device_core.specs.declared.config.DeviceConfig.{DeviceConfig}
 use Rattle.device_core.specs.declared.uplink.Uplink.{Uplink}
 use Rattle.device_core.specs.declared.delivered.Delivered.{Delivered}
 use Rattle.device_core.specs.declared.delivered.Delivered.TheVariants.{Deaf, Refused, OutboxFull, Done}
-use Rattle.device_core.specs.Device.{DeviceState, first_device, is_config, counter_after}
+use Rattle.device_core.specs.declared.delivered.Aired.{Aired}
+use Rattle.device_core.specs.declared.delivered.Aired.TheVariants.{Foreign}
+use Rattle.device_core.specs.Device.{DeviceState, first_device, is_config, counter_after, after_deaf, with_counts}
 use Rattle.device_core.specs.HeldDevice.{can_reserve}
 use Rattle.device_core.specs.declared.uplink.Answer.{Answer}
 use Rattle.sync_wire.specs.declared.cmd.Cmd.TheVariants.{PackageVersionAns}
 use Rattle.package_grammar.specs.declared.command.Command.TheVariants.{Sync}
 use Rattle.device_core.specs.Answers.{uplink_of, after_answers}
-use Rattle.device_core.specs.Fragments.{answer_delay, status_answers}
+use Rattle.device_core.specs.Fragments.{setup_of, answer_delay, status_answers}
 use Rattle.class_windows.specs.Open.{is_open_b}
 use Rattle.device_core.specs.ClassSessions.{is_open}
 use Rattle.device_core.specs.Firmware.{is_reached, after_migration}
@@ -442,6 +450,66 @@ pub record FirmwareSteps : Type 0 where
   pub too_far : is_reached (2 ^ 31 - 1) (2 ^ 32 - 1) ≡ false
   pub ahead : is_reached 14 15 ≡ false
 
+-- ---- power: which files became whole while it was away
+
+-- a session of an index for one fragment of one byte, that heard it, so that this byte is its file
+abbrev pub whole_session : (index byte : ℕ) → Option Session
+whole_session index byte = Some (record {
+  setup = setup_of index 0 1 1 0 0 0 0;
+  rows = 0;
+  heard = record { number = 1; part = byte ∷ []; mark = 1 } ∷ [];
+})
+
+-- one that heard nothing
+abbrev pub receiving_session : (index : ℕ) → Option Session
+receiving_session index = Some (record { setup = setup_of index 0 1 1 0 0 0 0; rows = 0; heard = [] })
+
+-- of index 1 and 2, whose files are 8 and 9
+abbrev pub two_whole : SessionTable
+two_whole = record no_sessions { second = whole_session 1 8; third = whole_session 2 9 }
+
+-- what is next where power finds these sessions, and it was 7
+abbrev pub next_of : CompleteFlags → SessionTable → List ℕ
+next_of whole table = (after_power whole table (with_next image.Corrupt)).slots.next_file
+
+pub record PowerSteps : Type 0 where
+  -- files that became whole are offered by rising index, so that the last of them is next
+  pub first_two : next_of none_complete (record no_sessions { first = whole_session 0 8; second = whole_session 1 9 }) ≡ 9 ∷ []
+  pub middle_two : next_of none_complete two_whole ≡ 9 ∷ []
+  pub last_two : next_of none_complete (record no_sessions { third = whole_session 2 8; fourth = whole_session 3 9 }) ≡ 9 ∷ []
+  -- one that was whole is not offered again
+  pub was_whole : next_of (record none_complete { third = true }) two_whole ≡ 8 ∷ []
+  -- nothing is offered where no file became whole
+  pub none : (after_power none_complete (record no_sessions { first = receiving_session 0 }) (with_next image.Corrupt)).slots
+      ≡ (with_next image.Corrupt).slots
+  -- the sessions that were found are there
+  pub found : (after_power none_complete two_whole (with_next image.Corrupt)).sessions ≡ two_whole
+
+-- ---- bytes from the radio where no group is heard
+
+-- a frame of 13 bytes, to the address 11223344
+abbrev pub other_frame : List ℕ
+other_frame = 0x60 ∷ 0x44 ∷ 0x33 ∷ 0x22 ∷ 0x11 ∷ 0x00 ∷ 0x01 ∷ 0x00 ∷ 0xc9 ∷ 0x5a ∷ 0xa8 ∷ 0xb9 ∷ 0x4b ∷ []
+
+-- what a device without a class session answers to bytes
+abbrev pub heard_alone : List ℕ → Aired
+heard_alone bytes = (radio 0 0 1 bytes fresh).answer
+
+-- a class session for group 0
+abbrev pub first_session : ClassSession
+first_session = record { id = 0; kind = ClassC; time = 0; timeout = 0 }
+
+pub record RadioSteps : Type 0 where
+  -- the first fault of the bytes, and of a frame without another its address
+  pub short : heard_alone (replicate 12 0x60) ≡ Foreign Short
+  pub long : heard_alone (replicate 256 0x60) ≡ Foreign Long
+  pub header : heard_alone (0x40 ∷ drop 1 other_frame) ≡ Foreign Header
+  pub address : heard_alone other_frame ≡ Foreign Address
+  -- so it is where the group of the class session is not there
+  pub no_group : brought_to (heard_group fresh.groups (Some first_session)) other_frame ≡ Err Address
+  -- it counts as what was not heard
+  pub counted : (radio 0 0 1 other_frame fresh).device ≡ with_counts after_deaf fresh
+
 -- ---- what a configuration may be
 
 pub record ConfigSteps : Type 0 where
@@ -483,5 +551,9 @@ pub record WorkedSteps : Type 0 where
   pub hearing : HearingSteps
   -- versions, images and reboots
   pub firmware : FirmwareSteps
+  -- which file is next after power
+  pub power : PowerSteps
+  -- why bytes from the radio are no frame for a device without a group
+  pub alone : RadioSteps
   -- the bounds of a configuration
   pub configs : ConfigSteps
