@@ -2,3 +2,4 @@ pub mod ByIndex
 pub mod PlaceSteps
 pub mod ForeignSteps
 pub mod StoreSteps
+pub mod WorkedPlaces

@@ -5,3 +5,4 @@ pub mod HeldSessions
 pub mod HeldPlaces
 pub mod HeldForeign
 pub mod HeldStore
+pub mod WorkedPlaces

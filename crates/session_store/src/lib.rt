@@ -11,11 +11,13 @@
 #![tactic(auto)]
 
 mod held_slots;
+mod laws;
 mod session_slots;
 mod state;
 mod store;
 
 pub use held_slots::{HeldSlots, Idles, Layout};
+pub use laws::worked_places;
 pub use session_slots::SessionSlots;
 pub use state::CompleteFlags;
 pub use store::{FlashFault, SessionStore};
