@@ -19,3 +19,4 @@ pub mod Runs
 pub mod Steps
 pub mod StillHeld
 pub mod Unique
+pub mod WorkedBytes

@@ -20,3 +20,4 @@ pub mod Replayed
 pub mod Seen
 pub mod Serving
 pub mod Sessions
+pub mod WorkedBytes

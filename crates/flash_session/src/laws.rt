@@ -1,0 +1,11 @@
+//! What holds of the definitions alone.
+
+ghost use Rattle.flash_session.specs.WorkedBytes.{WorkedSpellings, WorkedSession, WorkedForeign, WorkedCalls};
+
+/// A stored session byte by byte, the places that are no session's, and which calls of a flash in memory fail.
+pub fn worked_bytes()
+    ensures spellings { WorkedSpellings }
+    ensures session { WorkedSession }
+    ensures foreign { WorkedForeign }
+    ensures calls { WorkedCalls }
+{}
