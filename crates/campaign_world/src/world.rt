@@ -54,6 +54,7 @@ impl Model for World {
 
 impl World {
     ghost use Rattle.report_lines.specs.declared.faults.LineError.{LineError};
+    ghost use Rattle.report_lines.specs.Lines.{StaysRefused};
     ghost use Rattle.campaign_world.specs.HeldWorld.{WorldStands, WorldBecomes, KeepsEnds, IsLineAnswer, IsReport, IsSummary, IsEnded, IsEndAnswer, IsFine, world_of};
     ghost use Rattle.report_lines.specs.Texts.{seen_text};
 
@@ -159,7 +160,7 @@ impl World {
     pub fn report(&self, alloc: Global) -> Result<Vec<u8>, LineError>
         ensures report { (world : WorldState) → WorldStands self.now world → self.now.kept ≡ None
             → IsReport world (seen_text result) }
-        ensures same { (e : LineError) → self.now.kept ≡ Some e → result ≡ Err e }
+        ensures same { StaysRefused self.now.kept result }
     {
         let campaign = match self.played() {
             Ok(campaign) => campaign,
@@ -175,7 +176,7 @@ impl World {
     pub fn summary(&self, alloc: Global) -> Result<Vec<u8>, LineError>
         ensures summary { (world : WorldState) → WorldStands self.now world → self.now.kept ≡ None
             → IsSummary world (seen_text result) }
-        ensures same { (e : LineError) → self.now.kept ≡ Some e → result ≡ Err e }
+        ensures same { StaysRefused self.now.kept result }
     {
         let campaign = match self.played() {
             Ok(campaign) => campaign,
@@ -191,7 +192,7 @@ impl World {
     pub fn ended(&self) -> Result<(), LineError>
         ensures ended { (world : WorldState) → WorldStands self.now world → self.now.kept ≡ None
             → IsEnded world result }
-        ensures same { (e : LineError) → self.now.kept ≡ Some e → result ≡ Err e }
+        ensures same { StaysRefused self.now.kept result }
     {
         match self.played() {
             Ok(_) => Ok(()),
@@ -236,7 +237,7 @@ impl World {
     fn played(&self) -> Result<&Campaign, LineError>
         ensures ended { (world : WorldState) → WorldStands self.now world → self.now.kept ≡ None
             → IsEndAnswer world result }
-        ensures same { (e : LineError) → self.now.kept ≡ Some e → result ≡ Err e }
+        ensures same { StaysRefused self.now.kept result }
         ensures devices { IfOk result (λ campaign. campaign.now.devices ≡ self.now.devices) }
         ensures server { IfOk result (λ campaign. campaign.now.server ≡ self.now.server) }
         ensures sent { IfOk result (λ campaign. campaign.now.sent ≡ self.now.sent) }

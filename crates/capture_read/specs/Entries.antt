@@ -1,6 +1,6 @@
 -- The lines of a capture: JSON objects with the members port, dir and hex. (RFC 8259 as `serde_json` reads it; the members
 -- are this project's profile.)
-use Rattle.std.specs.Prelude.{◌≡◌, ℕ, ℤ, pos, negsuc, nat_lt, if◌then◌else◌, List, length, codes, Option, Some, None, option_and_then, Result, Ok, Err}
+use Rattle.std.specs.Prelude.{◌≡◌, ℕ, ℤ, pos, negsuc, nat_lt, if◌then◌else◌, List, length, codes, Option, Some, None, option_and_then, Result, Ok, Err, IfOk, IfErr}
 use Rattle.std.specs.Str.{bytes_eq, is_utf8}
 use Rattle.hex.specs.Hex.{decode_of}
 use Rattle.hex.specs.declared.error.FromHexError.{FromHexError}
@@ -79,3 +79,8 @@ entry_of line = entry_in (json_of line)
 abbrev pub IsRefusedBy : Result Entry EntryFault → EntryError → Type 0
 IsRefusedBy said (error.Refused cause) = said ≡ Err cause
 IsRefusedBy said error.Memory = Unit {0}
+
+-- the answer to a line of which this is said: its entry, or the cause for which it is refused, or memory was wanting
+pub record Answers (said : Result Entry EntryFault) (result : Result Entry EntryError) : Type 0 where
+  pub entry : IfOk result (λ e. said ≡ Ok e)
+  pub refused : IfErr result (IsRefusedBy said)

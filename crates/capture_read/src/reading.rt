@@ -2,7 +2,7 @@
 
 ghost use Rattle.std.specs.Prelude.{◌≡◌, List, ℕ, Option, Some, Ok, IfOk, IfErr};
 ghost use Rattle.serde_json.specs.View.{view};
-ghost use Rattle.capture_read.specs.Entries.{ranged, entry_in, entry_of, IsRefusedBy};
+ghost use Rattle.capture_read.specs.Entries.{ranged, entry_in, entry_of, Answers};
 
 use crate::answers::{Entry, EntryError, EntryFault};
 use crate::members::{dir_of, port_of};
@@ -15,8 +15,7 @@ use wire_base::{Direction, MAX_PAYLOAD, Payload};
 
 /// The entry of a line.
 pub fn entry(alloc: Global, line: &[u8]) -> Result<Entry, EntryError>
-    ensures entry { IfOk result (λ e. entry_of line.now ≡ Ok e) }
-    ensures refused { IfErr result (IsRefusedBy (entry_of line.now)) }
+    ensures { Answers (entry_of line.now) result }
 {
     let mut scratch = Scratch::new(alloc);
     entry_with(alloc, &mut scratch, line)
@@ -24,8 +23,7 @@ pub fn entry(alloc: Global, line: &[u8]) -> Result<Entry, EntryError>
 
 /// The same, where one `scratch` may be lent to line after line: it is room, and says nothing of what is answered.
 pub fn entry_with(alloc: Global, scratch: &mut Scratch, line: &[u8]) -> Result<Entry, EntryError>
-    ensures entry { IfOk result (λ e. entry_of line.now ≡ Ok e) }
-    ensures refused { IfErr result (IsRefusedBy (entry_of line.now)) }
+    ensures { Answers (entry_of line.now) result }
 {
     match plain_entry(alloc, scratch, line) {
         Some(entry) => Ok(entry),
@@ -36,8 +34,7 @@ pub fn entry_with(alloc: Global, scratch: &mut Scratch, line: &[u8]) -> Result<E
 /// The same of any line, as `serde_json` reads it.
 #[tactic(auto, unfolding(crate::specs::Entries::entry_of, crate::specs::Entries::json_of))]
 fn any_entry(alloc: Global, line: &[u8]) -> Result<Entry, EntryError>
-    ensures entry { IfOk result (λ e. entry_of line.now ≡ Ok e) }
-    ensures refused { IfErr result (IsRefusedBy (entry_of line.now)) }
+    ensures { Answers (entry_of line.now) result }
 {
     match Value::from_slice(alloc, line) {
         Ok(value) => entry_in(alloc, &value),
@@ -54,8 +51,7 @@ fn any_entry(alloc: Global, line: &[u8]) -> Result<Entry, EntryError>
 /// The entry that a JSON value is.
 #[tactic(auto, unfolding(crate::specs::Entries::hex_of))]
 fn entry_in(alloc: Global, value: &Value) -> Result<Entry, EntryError>
-    ensures entry { IfOk result (λ e. entry_in (Some (view value.now)) ≡ Ok e) }
-    ensures refused { IfErr result (IsRefusedBy (entry_in (Some (view value.now)))) }
+    ensures { Answers (entry_in (Some (view value.now))) result }
 {
     let Some(port) = port_of(value) else {
         return Err(EntryError::Refused(EntryFault::Syntax));

@@ -1,5 +1,5 @@
 -- What contracts see of a message on its way through a loop: the commands that are left of it.
-use Rattle.std.specs.Prelude.{◌≡◌, ◌≢◌, ℕ, Bool, true, false, List, [], ◌∷◌, ◌++◌, Option, Some, None, Result, Ok, Err}
+use Rattle.std.specs.Prelude.{◌≡◌, ◌≢◌, ℕ, Bool, true, false, List, [], ◌∷◌, ◌++◌, Option, Some, None, Result, Ok, Err, IfOk, OnErr}
 use Rattle.wire_base.specs.declared.refusal.Direction.{Direction}
 use Rattle.wire_base.specs.declared.refusal.Refusal.{Refusal}
 use Rattle.cast_wire.specs.declared.cmd.Cmd.TheVariants.{DataFragment}
@@ -29,6 +29,11 @@ abbrev pub ShowsCommand : HeldMessage → HeldMessage → (before after : List �
 ShowsCommand old new before after true =
     (command : Command) × TakesCommand old new (Some command) × (after ≡ before ++ text_of command)
 ShowsCommand old new before after false = TakesCommand old new None × (after ≡ before)
+
+-- so it is where memory suffices, and else nothing was put
+pub record ShowsNext (old new : HeldMessage) (before after : List ℕ) {E : Type 0} (result : Result Bool E) : Type 0 where
+  pub shown : IfOk result (λ more. ShowsCommand old new before after more)
+  pub same : OnErr result (after ≡ before)
 
 -- a DataFragment is all that is left; none exactly where the first command that is left is no DataFragment
 abbrev pub LeavesFragment : HeldMessage → Option Fragment → Type 0

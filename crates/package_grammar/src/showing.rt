@@ -1,6 +1,6 @@
 //! The text of a command.
-ghost use Rattle.std.specs.Prelude.{◌≡◌, ◌++◌, IfOk, OnOk, OnErr, string_bytes};
-ghost use Rattle.package_grammar.specs.HeldMessage.{ShowsCommand};
+ghost use Rattle.std.specs.Prelude.{◌≡◌, ◌++◌, OnOk, OnErr, string_bytes};
+ghost use Rattle.package_grammar.specs.HeldMessage.{ShowsNext};
 ghost use Rattle.package_grammar.specs.Texts.{fragment_text, text_of};
 
 use crate::command::Command;
@@ -31,9 +31,7 @@ impl<'a> Message<'a> {
     /// made in `room`, of which nothing is kept but its memory. Where memory is wanting nothing is put, and the command may
     /// be taken.
     pub fn show_next(&mut self, room: &mut String, out: &mut Vec<u8>) -> Result<bool, AllocError>
-        ensures shown { IfOk result
-            (λ more. ShowsCommand self.old self.new out.old.items out.new.items more) }
-        ensures same { OnErr result (out.new.items ≡ out.old.items) }
+        ensures { ShowsNext self.old self.new out.old.items out.new.items result }
     {
         match self.next_name() {
             Some(name) => {
@@ -46,9 +44,7 @@ impl<'a> Message<'a> {
 
     /// The same, a DataFragment from where it lies.
     fn show_fields(&mut self, room: &mut String, out: &mut Vec<u8>) -> Result<bool, AllocError>
-        ensures shown { IfOk result
-            (λ more. ShowsCommand self.old self.new out.old.items out.new.items more) }
-        ensures same { OnErr result (out.new.items ≡ out.old.items) }
+        ensures { ShowsNext self.old self.new out.old.items out.new.items result }
     {
         match self.next_fragment() {
             Some(fragment) => {
@@ -64,9 +60,7 @@ impl<'a> Message<'a> {
     /// The same. It stands alone, so that none of the others sees to the room for a whole command.
     #[inline(never)]
     fn show_whole(&mut self, room: &mut String, out: &mut Vec<u8>) -> Result<bool, AllocError>
-        ensures shown { IfOk result
-            (λ more. ShowsCommand self.old self.new out.old.items out.new.items more) }
-        ensures same { OnErr result (out.new.items ≡ out.old.items) }
+        ensures { ShowsNext self.old self.new out.old.items out.new.items result }
     {
         if self.text_next(room)? {
             out.extend_from_slice(room.as_bytes())?;

@@ -33,7 +33,8 @@ fn put_number_hex(number: u32, text: &mut String) -> Result<(), AllocError>
 
 /// Puts two hex digits for each byte at the end.
 fn put_bytes_hex(bytes: &[u8], text: &mut String) -> Result<(), AllocError>
-    ensures { OnOk result (string_bytes text.new ≡ string_bytes text.old ++ encode_lower bytes.now) }
+    ensures { OnOk result
+        (string_bytes text.new ≡ string_bytes text.old ++ encode_lower bytes.now) }
 {
     let digits = hex::encode(*text.allocator(), bytes)?;
     put_text(digits.as_str(), text)

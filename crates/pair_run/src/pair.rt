@@ -39,6 +39,7 @@ impl Model for Pair {
 
 impl Pair {
     ghost use Rattle.report_lines.specs.declared.faults.LineError.{LineError};
+    ghost use Rattle.report_lines.specs.Lines.{StaysRefused};
     ghost use Rattle.report_lines.specs.Texts.{seen_text};
     ghost use Rattle.pair_run.specs.HeldPair.{PairStands, PairBecomes, PairKeepsEnds, IsPairAnswer, IsPairReport, IsPairEnded, IsFineTarget};
 
@@ -103,7 +104,7 @@ impl Pair {
     pub fn report(&self, alloc: Global) -> Result<Vec<u8>, LineError>
         ensures report { (pair : PairState) → PairStands self.now pair → self.now.kept ≡ None
             → IsPairReport pair (seen_text result) }
-        ensures same { (e : LineError) → self.now.kept ≡ Some e → result ≡ Err e }
+        ensures same { StaysRefused self.now.kept result }
     {
         match self.ended() {
             Ok(()) => {}
@@ -122,7 +123,7 @@ impl Pair {
         ensures begun_b { OnOk result (has_begun self.now.b.section ≡ true) }
         ensures ended { (pair : PairState) → PairStands self.now pair → self.now.kept ≡ None
             → IsPairEnded pair result }
-        ensures same { (e : LineError) → self.now.kept ≡ Some e → result ≡ Err e }
+        ensures same { StaysRefused self.now.kept result }
     {
         if let Some(kept) = self.kept {
             return Err(kept);

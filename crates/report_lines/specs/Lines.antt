@@ -57,3 +57,7 @@ IsFileText Tells file (Err error.Memory) = Unit {0}
 abbrev pub IsLineRefused : {P : Type 0} → LineReading P → ℕ → (line : List ℕ) → LineError → Type 0
 IsLineRefused reading lines line (error.Line fault) = (reading lines line ≡ Err fault.why) × (fault.line ≡ lines + 1)
 IsLineRefused reading lines line error.Memory = Unit {0}
+
+-- after a fault each call answers with it
+abbrev pub StaysRefused : {A : Type 0} → Option LineError → Result A LineError → Type 0
+StaysRefused kept result = (e : LineError) → kept ≡ Some e → result ≡ Err e

@@ -32,7 +32,8 @@ pub fn reduce<const W: usize, const B: usize, M: Ledger>(
     rest: &mut [u8],
     sums: &mut Steps<M>,
 )
-    requires { MayPass columns.now area.now known.now arena.now line.old picks.old part.now rest.old }
+    requires { MayPass columns.now area.now known.now arena.now line.old picks.old part.now
+        rest.old }
     ensures left { Reduced (length columns.now) (length part.now) (places_in (length part.now)
         area.now arena.now columns.now) (line_in line.old) part.now (line_in line.new) rest.new }
     ensures few { AddsColumns (line_in line.old) sums.old sums.new }

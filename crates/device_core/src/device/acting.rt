@@ -94,7 +94,8 @@ impl<F: Flash + Drop> Device<F> {
         requires command { IsReceivable here.port (Command.Cast cmd.now) }
         requires room { length self.old.outbox + weight (Command.Cast cmd.now) ≤ 8 }
         ensures { Attempts F.seen self.old self.new result
-            (weight (Command.Cast cmd.now)) (λ device. command_step here device (Command.Cast cmd.now))
+            (weight (Command.Cast cmd.now))
+            (λ device. command_step here device (Command.Cast cmd.now))
             (λ device. command_tables here device (Command.Cast cmd.now)) }
     {
         use cast_wire::Cmd;
