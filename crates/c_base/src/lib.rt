@@ -1,11 +1,13 @@
-//! What the crates for C share: a box as the pointer that C keeps, bytes that go into memory of C's, and the numbers
-//! that calls answer. A box that is taken apart comes back with the value that it had, and bytes are written whole or
-//! as a window. What a handle is, and what a call does to its object, is left to the crates above.
+//! What the crates for C share: an object, or none, as the pointer that C keeps, bytes that go into memory of C's, and
+//! the numbers that calls answer. A box that is taken apart comes back with the value that it had, and bytes are written
+//! whole or as a window. How a handle crosses to C, and what a call does to its object, is left to the crates above.
 #![tactic(auto)]
 
 pub mod answer;
 mod bytes;
-mod loose;
+mod handle;
+mod raw_box;
 
 pub use bytes::{copy_part, put_whole};
-pub use loose::Loose;
+pub use handle::Handle;
+pub use raw_box::RawBox;

@@ -1,3 +1,2 @@
-pub mod ReceiverHandles
-pub mod DeviceHandles
+pub mod Forms
 pub mod Decodings

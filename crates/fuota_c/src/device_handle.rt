@@ -4,13 +4,12 @@ ghost use Rattle.std.specs.Prelude.{◌≡◌, Option, None, Some, option_map};
 ghost use Rattle.flash_session.specs.Flashes.{Cells};
 ghost use Rattle.device_core.specs.HeldDevice.{HeldDevice};
 
-use c_base::Loose;
+use c_base::Handle;
 use device_core::Device;
 use flash_session::CellFlash;
 use std::alloc::Global;
 use std::marker::Model;
 use std::mem::replace;
-use std::ptr::null_mut;
 
 /// The place of a device in memory, or none. To C it is one pointer.
 #[repr(C)]
@@ -21,35 +20,26 @@ pub struct DeviceHandle {
 }
 
 impl Model for DeviceHandle {
-    ghost use Rattle.fuota_c.specs.Held.{device_at};
+    ghost use Rattle.c_base.specs.Held.{held_at};
+    ghost use Rattle.fuota_c.specs.Held.{device_row};
 
-    ghost also_owns = { λ h. device_at h.alloc h.at h.held };
+    ghost also_owns = { λ h. held_at device_row h.alloc h.at h.held };
 }
 
 impl Drop for DeviceHandle {
     /// Frees the device, if there is one.
     fn drop(self) {
         // dropped at the end of this block
-        let _device = self.into_box();
+        let _device = self.into_handle().into_box();
     }
 }
 
 impl DeviceHandle {
-    /// No device.
-    pub fn none(alloc: Global) -> DeviceHandle
-        ensures { result.held ≡ None }
-    {
-        DeviceHandle {
-            at: null_mut(),
-            alloc,
-        }
-    }
-
     /// The handle of a device.
     pub fn of(device: Box<Device<CellFlash>>) -> DeviceHandle
         ensures { result.held ≡ Some device.value }
     {
-        DeviceHandle::of_loose(Loose::of(device))
+        DeviceHandle::of_handle(Handle::of(device))
     }
 
     /// The device, if there is one, of which the handle then has none.
@@ -57,40 +47,27 @@ impl DeviceHandle {
         ensures value { option_map (λ b. b.value) result ≡ self.old.held }
         ensures none { self.new.held ≡ None }
     {
-        replace(self, DeviceHandle::none(alloc)).into_box()
+        let none = DeviceHandle::of_handle(Handle::none(alloc));
+        replace(self, none).into_handle().into_box()
     }
 
-    /// The device, if there is one.
-    pub fn into_box(self) -> Option<Box<Device<CellFlash>>>
-        ensures { option_map (λ b. b.value) result ≡ self.held }
+    fn of_handle(handle: Handle<Device<CellFlash>>) -> DeviceHandle
+        ensures { result.held ≡ handle.held }
     {
-        match self.into_loose() {
-            None => None,
-            Some(loose) => Some(loose.into_box()),
-        }
-    }
-
-    fn of_loose(device: Loose<Device<CellFlash>, Global>) -> DeviceHandle
-        ensures { result.held ≡ Some device.value }
-    {
-        let Loose { at, alloc } = device;
+        let Handle { at, alloc } = handle;
         DeviceHandle {
             at: at as *mut u8,
             alloc,
         }
     }
 
-    fn into_loose(self) -> Option<Loose<Device<CellFlash>, Global>>
-        ensures { option_map (λ l. l.value) result ≡ self.held }
+    fn into_handle(self) -> Handle<Device<CellFlash>>
+        ensures { result.held ≡ self.held }
     {
         let DeviceHandle { at, alloc } = self;
-        if at.is_null() {
-            None
-        } else {
-            Some(Loose {
-                at: at as *mut Device<CellFlash>,
-                alloc,
-            })
+        Handle {
+            at: at as *mut Device<CellFlash>,
+            alloc,
         }
     }
 }

@@ -1,2 +1,2 @@
-pub mod ServerHandles
+pub mod Forms
 pub mod Plans
