@@ -1,5 +1,6 @@
 -- A capture is answered with its text, and ends as the answer to a replay.
 use Rattle.std.proofs.Common.{◌≡◌, ℕ, Bool, false, nat_lt, List, ◌++◌, length, codes, Option, Some, Result, Ok, Err, refl, le-ltb, sym, ap, ◌∙◌, subst}
+use Rattle.std.specs.Io.KnownBytes.{Appends}
 use Rattle.device_core.specs.Device.{DeviceState}
 use Rattle.script_lines.specs.Lines.{lines_of}
 use Rattle.report_lines.specs.declared.faults.LineFault.{LineFault}
@@ -12,11 +13,13 @@ use Rattle.payload_replay.proofs.CaptureLines.{capture_one}
 use Rattle.payload_replay.proofs.ReplayLines.{replay_one}
 use Rattle.fuota_run.specs.declared.forms.FileForm.{FileForm}
 use Rattle.fuota_run.specs.declared.forms.FileForm.TheVariants.{Replay, Capture}
+use Rattle.fuota_run.specs.declared.status.Status.{Status}
 use Rattle.fuota_run.specs.declared.status.Status.TheVariants as status
+use Rattle.fuota_run.specs.Ending.{AppendsAnswer}
 use Rattle.fuota_run.specs.Outside.{Held}
 use Rattle.fuota_run.specs.Words.{Invocation}
 use Rattle.fuota_run.specs.Answer.{Answer, answer, file_text, text_answer, IsReadAnswer, IsFileAnswer, IsAnswerTo, IsAnswer}
-use Rattle.fuota_run.specs.Headline.{IsFileHandedIn, IsCaptureAnswered}
+use Rattle.fuota_run.specs.Headline.{IsFileHandedIn, IsCaptureAnswered, IsCaptureRun}
 
 -- what is told of a file within its limit is what its words are answered
 file_answered : (words : List (List ℕ)) (held : Held) (what : FileForm) (file : List ℕ) → IsFileHandedIn words held what file
@@ -60,6 +63,20 @@ ends words replay_words held file replay_file items its other same a replay give
       text.2 ∙ ap (λ (t : List ℕ). answer status.Done t) end.1,
       heard.2 ∙ ap text_answer (replay_one replay_file heard.0 second heard.1 end.2),
     )
+
+-- and so it was written
+pub capture_run : (words : List (List ℕ)) (held : Held) (s : Status) (old new : Option (List ℕ)) → AppendsAnswer (Some held) words s old new
+    → IsCaptureRun words held s old new
+capture_run words held s old new given file replay_file items its same done =
+    let said = file_answered words held Capture file its given.0 given.1 in
+    let text = done_text said.0 given.0 said.2 (sym given.2 ∙ done) in
+    let captures : Captures file (Ok text.0) = subst (λ (r : Result (List ℕ) LineFault). Captures file r) text.1 said.1 in
+    let end = ends_as_replay file replay_file text.0 items same captures in
+    record {
+      device = end.0;
+      text = subst (λ (t : List ℕ). Appends old new t) (ap (λ (a : Answer). a.text) text.2 ∙ end.1) given.3;
+      replay = end.2;
+    }
 
 pub capture_answered : IsCaptureAnswered
 capture_answered = record { text_is = text_is; ends_as_replay = ends }

@@ -23,7 +23,7 @@ use Rattle.fuota_run.specs.Outside.{Held}
 use Rattle.fuota_run.specs.Limits.{image_limit, script_limit}
 use Rattle.device_core.specs.Device.{DeviceState}
 use Rattle.script_lines.specs.Lines.{lines_of}
-use Rattle.payload_replay.specs.Replay.{Reaches, closing_text, replay_text}
+use Rattle.payload_replay.specs.Replay.{Reaches, Replays, closing_text, replay_text}
 use Rattle.payload_replay.specs.Capture.{Caught, CatchesAll, capture_text}
 use Rattle.payload_replay.specs.CaptureReplay.{IsReplayOf, entries_text}
 use Rattle.capture_read.specs.declared.answers.Entry.{Entry}
@@ -95,6 +95,17 @@ pub record IsCaptureAnswered : Type 0 where
       → (device : DeviceState)
       × (a ≡ answer status.Done (codes "fuota capture 1\n" ++ (entries_text 1 items ++ closing_text device)))
       × (replay ≡ answer status.Done (codes "fuota replay 1\n" ++ closing_text device))
+
+-- so a capture was written whose payloads all go down on port 201: its entries, and then, from the counts on, what is told of the
+-- replay of the same payloads
+pub record IsCaptureWritten (replay_file : List ℕ) (items : List Entry) (old new : Option (List ℕ)) : Type 0 where
+  pub device : DeviceState
+  pub text : Appends old new (codes "fuota capture 1\n" ++ (entries_text 1 items ++ closing_text device))
+  pub replay : Replays replay_file (Ok (codes "fuota replay 1\n" ++ closing_text device))
+
+abbrev pub IsCaptureRun : List (List ℕ) → Held → Status → Option (List ℕ) → Option (List ℕ) → Type 0
+IsCaptureRun words held s old new = (file replay_file : List ℕ) (items : List Entry) → IsFileHandedIn words held Capture file
+    → IsReplayOf file replay_file items → s ≡ status.Done → IsCaptureWritten replay_file items old new
 
 -- whatever seed is asked for, no line of its campaign is refused, and the answer is what that comes to
 abbrev pub IsSeedAnswered : Type 0

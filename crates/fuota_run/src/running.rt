@@ -6,7 +6,7 @@ ghost use Rattle.fuota_run.specs.Outside.{HoldsName};
 ghost use Rattle.image_slots.specs.Image.{is_image};
 ghost use Rattle.fuota_run.specs.Words.{plays, plays_two, generates, asked, seen_asked, asks_files};
 ghost use Rattle.fuota_run.specs.Ending.{HoldsForm, HoldsInvocation, OutsideFiles, IsSoundAnswer, IsSoundOver, WhereNoneFails, IsImageRead, IsReadUp, Ends, AppendsAnswer, IsNoForm, IsFinished, IsFaultless};
-ghost use Rattle.fuota_run.specs.Headline.{IsCampaignRun, IsRecoveryRun};
+ghost use Rattle.fuota_run.specs.Headline.{IsCampaignRun, IsCaptureRun, IsRecoveryRun};
 ghost use Rattle.fuota_run.specs.PairHeadline.{IsPairRun};
 ghost use Rattle.fuota_run.specs.Source.{IsTakenOf};
 ghost use Rattle.fuota_run.specs.HeldAnswer.{answer_in};
@@ -62,6 +62,12 @@ pub fn run<F: Files, O: Sink>(alloc: Global, words: &[String], files: &mut F, ou
     ensures recovery { WhereNoneFails (F.held files.old)
         (F.faults files.old) (F.faults files.new) (O.faults out.old) (O.faults out.new) result
         (λ held. IsRecoveryRun (map string_bytes words.now) held result
+        (O.written out.old) (O.written out.new)) }
+
+    // A capture whose payloads all go down on port 201 ends as the replay of them.
+    ensures capture { WhereNoneFails (F.held files.old)
+        (F.faults files.old) (F.faults files.new) (O.faults out.old) (O.faults out.new) result
+        (λ held. IsCaptureRun (map string_bytes words.now) held result
         (O.written out.old) (O.written out.new)) }
 
     // Of two campaigns the whole report of both is written, and what holds of one campaign over its lines holds of each

@@ -4,6 +4,7 @@ use Rattle.fuota_run.specs.Outside.{AppendsFront}
 use Rattle.fuota_run.specs.HeldAnswer.{answer_in}
 use Rattle.fuota_run.proofs.AnswerLemmas.{ends_written, exact_of, front_of}
 use Rattle.fuota_run.proofs.RunHeadline.{if_some_map, campaign_run, recovery_run}
+use Rattle.fuota_run.proofs.CaptureAnswered.{capture_run}
 use Rattle.fuota_run.proofs.PairAnswered.{pair_run}
 use Rattle.fuota_run.proofs.running.run.Goals as goal
 
@@ -20,6 +21,11 @@ returns-in-Ok-write_text-clause-headline g c =
 pub returns-in-Ok-write_text-clause-recovery : goal.returns-in-Ok-write_text-clause-recovery
 returns-in-Ok-write_text-clause-recovery g c =
     if_some_map (g.F.Files.held c.args.files.now) (λ held exact quiet sound enough. recovery_run _ held _ _ _ (exact quiet sound enough))
+    (returns-in-Ok-write_text-clause-exact g c)
+
+pub returns-in-Ok-write_text-clause-capture : goal.returns-in-Ok-write_text-clause-capture
+returns-in-Ok-write_text-clause-capture g c =
+    if_some_map (g.F.Files.held c.args.files.now) (λ held exact quiet sound enough. capture_run _ held _ _ _ (exact quiet sound enough))
     (returns-in-Ok-write_text-clause-exact g c)
 
 pub returns-in-Ok-write_text-clause-pair : goal.returns-in-Ok-write_text-clause-pair
