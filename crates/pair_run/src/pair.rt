@@ -164,6 +164,7 @@ impl Pair {
     }
 
     /// Carries out a line that is not refused.
+    #[inline(always)]
     fn take(&mut self, whose: Whose, form: &Form) -> Result<(), LineError>
         requires fine { IsFineTarget self.old (told whose form.now) }
         requires room_a { self.old.a.lines < max_lines }
