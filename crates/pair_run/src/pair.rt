@@ -186,6 +186,7 @@ impl Pair {
     }
 
     /// Carries out a line at the two worlds.
+    #[inline(always)]
     #[tactic(auto, unfolding(crate::specs::PairMaking::after_target))]
     fn carry_out(&mut self, whose: Whose, form: &Form) -> Result<(), LineError>
         requires fine { IsFineTarget self.old (told whose form.now) }

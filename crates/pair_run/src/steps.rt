@@ -16,7 +16,6 @@ use report_lines::LineError;
 use script_lines::{Campaign, Form};
 
 /// Both take a line.
-#[inline(always)]
 pub fn take_both(a: &mut World, b: &mut World, form: &Form) -> Result<(), LineError>
     requires quiet { is_quiet form.now ≡ true }
     requires a { IsFine a.old form.now }
