@@ -1,5 +1,5 @@
 /* Firmware update over the air for LoRaWAN (TS003, TS004, TS005 and TS006, 1.0.0): a receiver of one file at a time, a
- * whole device, the server of a campaign, and payloads as text. README.md says how to build and link it.
+ * whole device, the server of a campaign, and payloads as text. docs/SAMPLES.md says how to build and link it.
  *
  * Each call is proved: with any argument that its types allow it does what docs/promises/fuota_c.md and
  * fuota_server_c.md say, nothing undefined, and returns. Memory is taken by the calls _new alone, and given back by
