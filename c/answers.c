@@ -200,6 +200,43 @@ static int server_answers(const uint8_t *image, size_t length) {
     return 0;
 }
 
+/* A server ends and another is restored after each of its calls, and each changed byte and each cut is refused. */
+static int server_outlasts(const uint8_t *image, size_t length) {
+    static const uint8_t first[14] = {'F', 'U', 'S', 'S', 1, 1, 0, 0, 0, 0, 0, 1, 0, 0};
+    fuota_server server = FUOTA_SERVER_NONE;
+    fuota_plan plan = {.frag_size = 13, .parity = 1};
+    fuota_down down = {0};
+    uint8_t saved[FUOTA_SAVED_SERVER], field = 7;
+    size_t count, k;
+    int i;
+    memset(saved, 0xEE, sizeof saved);
+    SO(fuota_server_save(&server, saved, sizeof saved) == 0 && saved[0] == 0xEE);
+    SO(fuota_server_new(&server, &plan, zeros, 16, image, length, &field) == FUOTA_DONE);
+    SO(fuota_server_save(&server, saved, 45) == 0 && saved[0] == 0xEE);
+    for (i = 0; i < 6; i++) {
+        count = fuota_server_save(&server, saved, sizeof saved);
+        SO(count == 46 && saved[46] == 0xEE && saved[5] == i + 1);
+        SO(i > 0 || !memcmp(saved, first, sizeof first));
+        SO(fuota_server_restore(&server, &plan, zeros, 16, image, length, saved, count, &field) == FUOTA_DONE);
+        SO(fuota_server_next_fragment(&server, &down) == (i < 5 ? FUOTA_DONE : FUOTA_NOTHING));
+        SO(i == 5 || (down.payload[1] == i + 1 && down.payload[2] == 0));
+    }
+    for (k = 0; k < count; k++) {
+        saved[k] ^= 1;
+        SO(fuota_server_restore(&server, &plan, zeros, 16, image, length, saved, count, &field) == FUOTA_CORRUPT);
+        saved[k] ^= 1;
+        SO(fuota_server_restore(&server, &plan, zeros, 16, image, length, saved, k, &field) == FUOTA_CORRUPT);
+        SO(server.at == NULL);
+    }
+    SO(fuota_server_restore(&server, &plan, zeros, 32, image, length, saved, count, &field) == FUOTA_CORRUPT);
+    SO(fuota_server_restore(&server, &plan, zeros, 16, image, length - 1, saved, count, &field) == FUOTA_REFUSED);
+    SO(field == 7);
+    plan.parity = 513;
+    SO(fuota_server_restore(&server, &plan, zeros, 16, image, length, saved, count, &field) == FUOTA_RANGE);
+    SO(field == FUOTA_FIELD_PARITY && server.at == NULL);
+    return 0;
+}
+
 static int decode_answers(void) {
     static const uint8_t status[5] = {0x01, 0x02, 0x00, 0x01, 0x00};
     static const char line[] = "FragSessionStatusAns";
@@ -227,5 +264,5 @@ int main(int argc, char **argv) {
     if (length != 52)
         return 2;
     return without_objects() || receiver_answers() || device_answers() || server_answers(image, length)
-        || decode_answers();
+        || server_outlasts(image, length) || decode_answers();
 }

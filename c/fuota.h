@@ -2,9 +2,9 @@
  * whole device, the server of a campaign, and payloads as text. docs/SAMPLES.md says how to build and link it.
  *
  * Each call is proved: with any argument that its types allow it does what docs/promises/fuota_c.md and
- * fuota_server_c.md say, nothing undefined, and returns. Memory is taken by the calls _new alone, and given back by
- * _free, and by _new of what was there; fuota_decode takes memory for its text and gives it back. What C owes is
- * written here, and nothing checks it:
+ * fuota_server_c.md say, nothing undefined, and returns. Memory is taken by the calls _new and _restore alone, and given
+ * back by _free, and by _new and _restore of what was there; fuota_decode takes memory for its text and gives it back.
+ * What C owes is written here, and nothing checks it:
  *   - a handle begins as { 0 }, as by its ..._NONE. It is not copied, and what is in it is neither read nor written by
  *     C;
  *   - one call at a time uses a handle, and all calls on one handle come from one thread;
@@ -40,7 +40,8 @@ enum fuota_answer {
     FUOTA_REFUSED = 6,   /* the payload spells no commands, or the image is no image file; nothing acted */
     FUOTA_DEAF = 7,      /* the device did not hear the payload */
     FUOTA_FULL = 8,      /* the device would hold more than 8 uplinks; nothing acted */
-    FUOTA_SPENT = 9      /* the frame counts of the group are spent; nothing changed */
+    FUOTA_SPENT = 9,     /* the frame counts of the group are spent; nothing changed */
+    FUOTA_CORRUPT = 10   /* the saved bytes are of no object that is so set up */
 };
 
 /* ---- What a session shows ---- */
@@ -284,6 +285,19 @@ uint8_t fuota_server_uplink(fuota_server *handle, uint8_t dev, uint8_t port, con
 
 /* Where a device stands: FUOTA_DONE; FUOTA_RANGE where the plan has no such device; FUOTA_NO_OBJECT. */
 uint8_t fuota_server_ledger(fuota_server *handle, uint8_t dev, fuota_stage *out);
+
+/* The most bytes that a server saves: 44, and two for each of 64 devices. */
+#define FUOTA_SAVED_SERVER 172
+
+/* What the server knows, as bytes for fuota_server_restore, at the front of `into`; their count, and 0 where they have no
+ * room, or without a server. They are saved before the payload of a call goes out. There is no key among them. */
+size_t fuota_server_save(fuota_server *handle, uint8_t *into, size_t room);
+
+/* Frees what was there, and puts the server of this plan, keys and image that saved these bytes into the handle: as
+ * fuota_server_new puts one at its start, and answered as there; FUOTA_CORRUPT where no such server saved them. */
+uint8_t fuota_server_restore(fuota_server *handle, const fuota_plan *plan, const uint8_t *keys, size_t keys_length,
+                             const uint8_t *image, size_t image_length, const uint8_t *saved, size_t saved_length,
+                             uint8_t *field);
 
 /* ---- Payloads as text ---- */
 

@@ -16,7 +16,7 @@
 enum { STACK = 1 << 18, PAINT = 0xA5 };
 
 static uint8_t stack[STACK], image[262144], small[12288], file[262144];
-static size_t image_length, small_length;
+static size_t image_length, small_length, saved_length;
 static ucontext_t here, there;
 
 static fuota_receiver receiver = FUOTA_RECEIVER_NONE;
@@ -33,7 +33,7 @@ static fuota_uplink up;
 static fuota_stage stage;
 static fuota_view view;
 static fuota_decoded decoded;
-static uint8_t text[1000], answer, field;
+static uint8_t text[1000], saved[FUOTA_SAVED_SERVER], answer, field;
 static uint32_t version;
 static int most = -1;
 
@@ -71,6 +71,10 @@ static void server_uplink(void) {
     answer = fuota_server_uplink(&server, 1, up.port, up.payload, up.length, 1000, &down);
 }
 static void server_ledger(void) { answer = fuota_server_ledger(&server, 1, &stage); }
+static void server_save(void) { saved_length = fuota_server_save(&server, saved, sizeof saved); }
+static void server_restore(void) {
+    answer = fuota_server_restore(&server, &plan, keys, sizeof keys, image, image_length, saved, saved_length, &field);
+}
 static void decode(void) { answer = fuota_decode(up.port, true, up.payload, up.length, text, sizeof text, &decoded); }
 
 typedef struct call {
@@ -89,7 +93,8 @@ static call calls[] = {
     {device_view, "device_view", 0}, {device_file, "device_file", 0}, {device_running, "device_running", 0},
     {server_new, "server_new", 0}, {server_free, "server_free", 0}, {server_next_fragment, "server_next_fragment", 0},
     {server_status_all, "server_status_all", 0}, {server_ask, "server_ask", 0}, {server_uplink, "server_uplink", 0},
-    {server_ledger, "server_ledger", 0}, {decode, "decode", 0}};
+    {server_ledger, "server_ledger", 0}, {server_save, "server_save", 0}, {server_restore, "server_restore", 0},
+    {decode, "decode", 0}};
 
 enum { CALLS = sizeof calls / sizeof calls[0] };
 
@@ -164,6 +169,8 @@ static void play(int campaign) {
                 radio();
         made(server_status_all);
         radio();
+        made(server_save);
+        made(server_restore);
     }
     made(device_wake);
     made(device_view);

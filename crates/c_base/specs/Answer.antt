@@ -39,6 +39,10 @@ full = 8
 abbrev pub spent : ℕ
 spent = 9
 
+-- saved bytes are of no object that is so set up
+abbrev pub corrupt : ℕ
+corrupt = 10
+
 -- where a call answers bits of a refusal, and there is no receiver
 abbrev pub no_receiver : ℕ
 no_receiver = 255

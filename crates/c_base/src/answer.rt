@@ -20,6 +20,8 @@ pub const DEAF: u8 = 7;
 pub const FULL: u8 = 8;
 /// The frame counts of the group are spent; nothing changed.
 pub const SPENT: u8 = 9;
+/// The saved bytes are of no object that is so set up.
+pub const CORRUPT: u8 = 10;
 
 /// Where a call answers bits of a refusal, and there is no receiver.
 pub const NO_RECEIVER: u8 = 255;

@@ -1,3 +1,4 @@
 pub mod Held
 pub mod Plan
+pub mod Saving
 pub mod Sent

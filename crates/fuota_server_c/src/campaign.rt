@@ -1,6 +1,6 @@
 //! A server that knows how many devices its plan has.
 
-use campaign_server::{Plan, Server, ServerError, Spent, Stage};
+use campaign_server::{Plan, RestoreError, SavedServer, Server, ServerError, Spent, Stage};
 use package_grammar::Downlink;
 use std::alloc::Global;
 use std::marker::Model;
@@ -32,7 +32,9 @@ impl Campaign {
     ghost use Rattle.campaign_server.specs.Uplinks.{uplink_step};
     ghost use Rattle.campaign_server.specs.Fragments.{next_fragment, after_fragment, status_to_all, after_status_to_all};
     ghost use Rattle.campaign_server.specs.Sent.{down_of, result_of, answer_of};
+    ghost use Rattle.campaign_server.specs.Saving.{saved_of};
     ghost use Rattle.fuota_server_c.specs.Plan.{IsMade};
+    ghost use Rattle.fuota_server_c.specs.Saving.{IsRestored};
     ghost use Rattle.fuota_server_c.specs.Sent.{has_device};
 
     /// The server at the start of a campaign, or why there is none.
@@ -46,6 +48,32 @@ impl Campaign {
             Err(ServerError::BadPlan(field)) => Err(ServerError::BadPlan(field)),
             Err(ServerError::Memory) => Err(ServerError::Memory),
         }
+    }
+
+    /// The server that saved these bytes, or why there is none.
+    pub fn restore(
+        alloc: Global,
+        plan: Plan,
+        image: &[u8],
+        saved: &[u8],
+    ) -> Result<Campaign, RestoreError>
+        requires { is_image image.now ≡ true }
+        ensures { IsRestored image.now plan saved.now result }
+    {
+        let devices = plan.devices.len();
+        match Server::restore(alloc, plan, image, saved) {
+            Ok(server) => Ok(Campaign { server, devices }),
+            Err(RestoreError::BadPlan(field)) => Err(RestoreError::BadPlan(field)),
+            Err(RestoreError::Corrupt) => Err(RestoreError::Corrupt),
+            Err(RestoreError::Memory) => Err(RestoreError::Memory),
+        }
+    }
+
+    /// What it knows, as bytes that `restore` takes again.
+    pub fn save(&self) -> SavedServer
+        ensures { result.items ≡ saved_of self.now }
+    {
+        self.server.save()
     }
 
     /// Whether the plan has a device of this number.

@@ -7,6 +7,7 @@
 
 mod campaign;
 mod plan;
+mod saving;
 mod sent;
 mod server;
 mod server_handle;

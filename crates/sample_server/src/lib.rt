@@ -7,6 +7,7 @@ ghost use Rattle.std.specs.Result.{result_ok};
 ghost use Rattle.image_slots.specs.Image.{is_image};
 ghost use Rattle.campaign_server.specs.declared.plan.Field.{Field};
 ghost use Rattle.campaign_server.specs.Plan.{bad_field};
+ghost use Rattle.campaign_server.specs.Saving.{IsOver, saved_of};
 ghost use Rattle.campaign_server.specs.Server.{first_server, ledger};
 ghost use Rattle.campaign_server.specs.Sent.{down_of, answer_of};
 ghost use Rattle.campaign_server.specs.Asking.{request_of};
@@ -15,7 +16,10 @@ ghost use Rattle.campaign_server.specs.Uplinks.{uplink_step};
 ghost use Rattle.sample_server.specs.Campaign.{plan_for};
 ghost use Rattle.campaign_server.specs.declared.stage.Stage.TheVariants.{Updated};
 
-use campaign_server::{Kind, Plan, PlanDevice, PlanGroup, PlanWindow, Server, ServerError, Stage};
+use campaign_server::{
+    Kind, Plan, PlanDevice, PlanGroup, PlanWindow, RestoreError, SavedServer, Server, ServerError,
+    Stage,
+};
 use package_grammar::Downlink;
 use std::alloc::Global;
 use wire_base::Refusal;
@@ -36,7 +40,37 @@ pub fn campaign(
     ensures bad_plan { (field : Field) → (result ≡ Err (ServerError.BadPlan field))
         ↔ (bad_field (length image.now) (plan_for group start devices.items) ≡ Some field) }
 {
-    let plan = Plan {
+    Server::new(alloc, plan_for(group, start, devices), image)
+}
+
+/// What the server knows, to be kept before a payload that a call gave goes out: in the place of what was kept before, whole,
+/// or not at all.
+pub fn kept(server: &Server) -> SavedServer
+    ensures { result.items ≡ saved_of server.now }
+{
+    server.save()
+}
+
+/// The server of the same campaign again, in a process that was begun anew, of the bytes that were kept.
+pub fn again(
+    alloc: Global,
+    image: &[u8],
+    group: PlanGroup,
+    start: u32,
+    devices: Vec<PlanDevice>,
+    kept: &[u8],
+) -> Result<Server, RestoreError>
+    requires { is_image image.now ≡ true }
+    ensures { IfOk result (λ s. IsOver (plan_for group start devices.items) image.now s
+        × (saved_of s ≡ kept.now)) }
+{
+    Server::restore(alloc, plan_for(group, start, devices), image, kept)
+}
+
+fn plan_for(group: PlanGroup, start: u32, devices: Vec<PlanDevice>) -> Plan
+    ensures { result ≡ plan_for group start devices.items }
+{
+    Plan {
         frag_size: 48,
         parity: 16,
         index: 0,
@@ -49,8 +83,7 @@ pub fn campaign(
             dr: 0,
         }),
         devices,
-    };
-    Server::new(alloc, plan, image)
+    }
 }
 
 /// What goes into the queue of a device: the request of its stage, as port and bytes, unconfirmed. It is sent again when no

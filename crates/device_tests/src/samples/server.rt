@@ -7,7 +7,7 @@ use campaign_server::{PlanDevice, PlanGroup, Server};
 use image_slots::is_image;
 use mc_keys::RootKind;
 use package_grammar::To;
-use sample_server::{came, campaign, is_updated, queue_of, queue_of_group};
+use sample_server::{again, came, campaign, is_updated, kept, queue_of, queue_of_group};
 use std::alloc::Global;
 use std::process::Abort;
 use std::test::*;
@@ -46,6 +46,19 @@ fn begun(rt: &impl Abort, alloc: Global) -> Server
     }
 }
 
+/// The server, ended and made again of what was kept.
+fn made_again(rt: &impl Abort, alloc: Global, server: Server) -> Server
+    ensures { length result.plan.devices ≡ 1 }
+{
+    let bytes = kept(&server);
+    drop(server);
+    assert!(rt; is_image(&IMAGE));
+    match again(alloc, &IMAGE, group(), 1000, devices(rt, alloc), bytes.as_slice()) {
+        Ok(server) => server,
+        Err(_) => panic!(rt; "bytes of no server"),
+    }
+}
+
 /// What is asked of the device.
 fn asks(rt: &impl Abort, server: &Server, port: u8, bytes: &[u8])
     requires { length server.now.plan.devices ≡ 1 }
@@ -79,8 +92,9 @@ fn a_campaign_is_driven(rt: HostRuntime) {
     assert!(rt; !is_updated(&server, 1));
     let answer = [0x01, 0, 0, 0, 0, 1, 0, 0, 0];
     assert!(rt; matches!(came(&mut server, 1, 203, &answer, 0), Ok(None)));
-    // two fragments, and then the group's counts are spent
+    // two fragments, between which the server ends, and then the group's counts are spent
     sends(&rt, &mut server, 7);
+    server = made_again(&rt, rt.alloc(), server);
     sends(&rt, &mut server, 8);
     assert!(rt; queue_of_group(&mut server).is_none());
     drop(server);

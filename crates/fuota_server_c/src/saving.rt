@@ -1,0 +1,99 @@
+//! A server outlasts its process: what it saves, and the server that comes back of it.
+
+ghost use Rattle.std.specs.Prelude.{◌≡◌, true};
+ghost use Rattle.core.specs.Result.{result_map_both};
+ghost use Rattle.image_slots.specs.Image.{is_image};
+ghost use Rattle.campaign_server.specs.Saving.{saved_of};
+ghost use Rattle.c_base.specs.Bytes.{Whole};
+ghost use Rattle.c_base.specs.Calls.{Tells};
+ghost use Rattle.fuota_server_c.specs.Plan.{plan_of};
+ghost use Rattle.fuota_server_c.specs.Saving.{IsRestored, IsServerBack};
+
+use crate::campaign::Campaign;
+use crate::plan::{PlanFields, field_number, plan_of};
+use crate::server::fuota_server_free;
+use crate::server_handle::ServerHandle;
+use c_base::answer::{CORRUPT, DONE, NO_MEMORY, RANGE, REFUSED};
+use c_base::put_whole;
+use campaign_server::RestoreError;
+use image_slots::is_image;
+use std::alloc::{AllocError, Global};
+
+/// What the server knows, as bytes for `fuota_server_restore`, to the front of `into`: 44 bytes and two for each device; their
+/// count, and 0 where they have no room, or without a server.
+#[unsafe(no_mangle)]
+pub extern "C" fn fuota_server_save(
+    handle: &mut ServerHandle,
+    alloc: Global,
+    into: &mut [u8],
+) -> usize
+    ensures same { handle.new.held ≡ handle.old.held }
+    ensures saved { Tells handle.old.held (λ x. Whole (saved_of x) into.old into.new result)
+        ((result ≡ 0) × (into.new ≡ into.old)) }
+{
+    match handle.take(alloc) {
+        None => 0,
+        Some(server) => {
+            let count = put_whole(server.save().as_slice(), into);
+            *handle = ServerHandle::of(server);
+            count
+        }
+    }
+}
+
+/// Frees what was there, and puts the server of this plan and image that saved these bytes into the handle, as
+/// `fuota_server_new` puts one at its start, with its answers; corrupt where no such server saved them.
+#[unsafe(no_mangle)]
+pub extern "C" fn fuota_server_restore(
+    handle: &mut ServerHandle,
+    alloc: Global,
+    plan: &PlanFields,
+    keys: &[u8],
+    image: &[u8],
+    saved: &[u8],
+    field: &mut u8,
+) -> u8
+    ensures { IsServerBack image.now (plan_of plan.now keys.now) saved.now
+        handle.new.held field.old field.new result }
+{
+    fuota_server_free(handle, alloc);
+    if !is_image(image) {
+        return REFUSED;
+    }
+    match boxed(alloc, plan, keys, image, saved) {
+        Ok(server) => {
+            *handle = ServerHandle::of(server);
+            DONE
+        }
+        Err(RestoreError::BadPlan(wrong)) => {
+            *field = field_number(wrong);
+            RANGE
+        }
+        Err(RestoreError::Corrupt) => CORRUPT,
+        Err(RestoreError::Memory) => NO_MEMORY,
+    }
+}
+
+fn boxed(
+    alloc: Global,
+    fields: &PlanFields,
+    keys: &[u8],
+    image: &[u8],
+    saved: &[u8],
+) -> Result<Box<Campaign>, RestoreError>
+    requires { is_image image.now ≡ true }
+    ensures { IsRestored image.now (plan_of fields.now keys.now) saved.now
+        (result_map_both (λ b. b.value) (λ e. e) result) }
+{
+    let plan = match plan_of(alloc, fields, keys) {
+        Ok(plan) => plan,
+        Err(AllocError) => return Err(RestoreError::Memory),
+    };
+    match Campaign::restore(alloc, plan, image, saved) {
+        Err(error) => Err(error),
+        Ok(server) => match Box::new(alloc, server) {
+            Err(_) => Err(RestoreError::Memory),
+            Ok(server) => Ok(server),
+        },
+    }
+}
