@@ -40,7 +40,15 @@ impl DeviceClock {
     pub fn new(offset: u32) -> Self
         ensures { result ≡ first_clock offset }
     {
-        DeviceClock { offset, token: 0 }
+        DeviceClock::with_token(offset, 0)
+    }
+
+    /// A clock that is `offset` seconds ahead of true time, and whose next request has this token, 0 to 15.
+    pub fn with_token(offset: u32, token: u8) -> Self
+        requires { token < 16 }
+        ensures { result ≡ record { offset = offset; token = token } }
+    {
+        DeviceClock { offset, token }
     }
 
     /// The device's time in seconds, modulo 2^32, at `t` ms of true time.

@@ -4,23 +4,16 @@ use Rattle.flash_session.specs.declared.fault.OpenFault.{OpenFault}
 use Rattle.flash_session.specs.declared.fault.OpenFault.TheVariants as fault
 use Rattle.flash_session.specs.Seen.{FlashSeen}
 use Rattle.flash_session.specs.Serving.{FlashOpens}
-use Rattle.session_store.specs.declared.state.State.{State}
-use Rattle.session_store.specs.declared.state.State.TheVariants.{Memory, Flash, Down}
 use Rattle.session_store.specs.declared.state.CompleteFlags.{CompleteFlags}
 use Rattle.session_store.specs.HeldForeign.{NoneForeign, IsForeignIn}
 use Rattle.session_store.specs.HeldPlaces.{TableLies}
-use Rattle.session_store.specs.CompleteFlags.{flags_of}
+-- these had their file whole when the device was last up: now, or when it went down
+pub use Rattle.session_store.specs.HeldStore.{HadWhole}
 use Rattle.device_core.specs.Device.{DeviceState}
 use Rattle.device_core.specs.HeldDevice.{HeldDevice, device_of, DeviceStands}
-use Rattle.device_core.specs.HeldSessions.{IsUp, IsDown, StateStands, StateIsStored, StateIsHeld, IsLaidOut}
+use Rattle.device_core.specs.HeldSessions.{IsUp, IsDown, StateIsStored, StateIsHeld, IsLaidOut}
 use Rattle.device_core.specs.Power.{after_power}
 use Rattle.device_core.specs.SessionTable.{SessionTable}
-
--- these had their file whole when the device was last up: now, or when it went down
-abbrev pub HadWhole : State → CompleteFlags → Type 0
-HadWhole (Memory slots) whole = (table : SessionTable) × StateStands (Memory slots) table × (whole ≡ flags_of table)
-HadWhole (Flash slots) whole = (table : SessionTable) × StateStands (Flash slots) table × (whole ≡ flags_of table)
-HadWhole (Down idles was) whole = whole ≡ was
 
 -- what power makes of a device and of its flash
 pub record Powers {F : Type 0} (seen : F → FlashSeen)

@@ -84,6 +84,20 @@ impl Slots {
         }
     }
 
+    /// A file of at most `area` bytes is what runs from now on, with this version, and next stays.
+    pub fn run(&mut self, version: u32, file: &[u8])
+        requires { length file.now ≤ self.old.area }
+        ensures { self.new ≡ record self.old {
+          slots = record self.old.slots { version = version; running = file.now };
+        } }
+    {
+        self.version = version;
+        self.running.clear();
+        if self.running.extend_from_slice(file).is_err() {
+            unreachable!();
+        }
+    }
+
     /// A valid next becomes what runs, and next is none; any other next stays.
     #[tactic(auto, unfolding(crate::specs::Slots::after_swap))]
     pub fn swap(&mut self)
@@ -134,11 +148,25 @@ impl Slots {
         (self.version, self.running.as_slice())
     }
 
+    /// The image formats that it knows: 1 alone (1), or both (2).
+    pub fn formats(&self) -> u8
+        ensures { result ≡ self.now.slots.formats }
+    {
+        self.formats
+    }
+
     /// What next is to the device.
     pub fn next(&self) -> ImageState
         ensures { result ≡ self.now.slots.next }
     {
         self.next
+    }
+
+    /// The bytes of next, none where next is none.
+    pub fn next_file(&self) -> &[u8]
+        ensures { result.now ≡ self.now.slots.next_file }
+    {
+        self.next_file.as_slice()
     }
 
     /// Next is none.

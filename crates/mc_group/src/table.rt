@@ -92,22 +92,35 @@ impl GroupTable {
             (Some (group_of gen_app_key.now root addr wrapped.now min max)) }
         ensures refused { result ≡ GroupAnswer.IdError → self.new ≡ self.old }
     {
-        let id = id as usize;
-        if id >= self.places.len() {
+        if id as usize >= self.places.len() {
             return GroupAnswer::IdError;
         }
         let key = unwrap_key(&kek(&mc_keys::root(root, gen_app_key)), wrapped);
-        self.places[id] = Some(Group {
-            addr,
-            key,
-            min,
-            max,
-        });
-        self.keys[id] = SessionKeys {
-            app_s: app_s_key(&key, addr),
-            net_s: net_s_key(&key, addr),
-        };
+        self.put(
+            id,
+            Some(Group {
+                addr,
+                key,
+                min,
+                max,
+            }),
+        );
         GroupAnswer::Ok
+    }
+
+    /// A group, or none, takes the place of what an id had, which is to be configured. Its key comes unwrapped, as from `get`.
+    pub fn put(&mut self, id: u8, group: Option<Group>)
+        requires { id < length self.old }
+        ensures { self.new ≡ slice_set self.old id group }
+    {
+        let id = id as usize;
+        self.places[id] = group;
+        if let Some(group) = group {
+            self.keys[id] = SessionKeys {
+                app_s: app_s_key(&group.key, group.addr),
+                net_s: net_s_key(&group.key, group.addr),
+            };
+        }
     }
 
     /// Answers McGroupDeleteReq: the group of an id ends.

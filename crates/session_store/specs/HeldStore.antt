@@ -65,6 +65,12 @@ StateIsStored (Memory slots) table seen = Unit {0}
 StateIsStored (Flash slots) table seen = AreHeld slots table seen
 StateIsStored (Down idles flags) table seen = ⊥
 
+-- these had their file whole when the device was last up: now, or when it went down
+abbrev pub HadWhole : State → CompleteFlags → Type 0
+HadWhole (Memory slots) whole = (table : SessionTable) × StateStands (Memory slots) table × (whole ≡ flags_of table)
+HadWhole (Flash slots) whole = (table : SessionTable) × StateStands (Flash slots) table × (whole ≡ flags_of table)
+HadWhole (Down idles was) whole = whole ≡ was
+
 -- they are up in flash, and lie there
 abbrev pub StateIsHeld : State → SessionTable → FlashSeen → Type 0
 StateIsHeld (Memory slots) table seen = ⊥

@@ -134,7 +134,7 @@ fn is_whole(slots: &HeldSlots, index: u8) -> bool
 }
 
 /// Whether the verdict is that the file is whole.
-fn is_complete(verdict: Verdict) -> bool
+pub fn is_complete(verdict: Verdict) -> bool
     ensures { result ≡ is_complete verdict }
 {
     match verdict {

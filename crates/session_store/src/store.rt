@@ -7,16 +7,17 @@ ghost use Rattle.frag_session.specs.HeldView.{seen};
 ghost use Rattle.flash_session.specs.Body.{FieldsFit};
 ghost use Rattle.flash_session.specs.Seen.{left};
 ghost use Rattle.flash_session.specs.Serving.{FlashOpens};
-ghost use Rattle.session_store.specs.CompleteFlags.{none_complete};
+ghost use Rattle.session_store.specs.CompleteFlags.{none_complete, is_whole};
 ghost use Rattle.session_store.specs.SessionTable.{SessionTable, no_sessions, session_at, with_session, table_after_setup, table_after_fragment};
 ghost use Rattle.session_store.specs.HeldForeign.{NoneForeign, IsForeignIn};
 ghost use Rattle.session_store.specs.HeldPlaces.{TableLies, TableOldOrNew, TableOldNoneOrNew};
-ghost use Rattle.session_store.specs.HeldStore.{IsUp, IsDown, IsInFlash, StateStands, StateIsHeld, HasRanges, StoreServes, StorePowers, store_room};
+ghost use Rattle.session_store.specs.HeldStore.{IsUp, IsDown, IsInFlash, StateStands, StateIsHeld, HadWhole, HasRanges, StoreServes, StorePowers, store_room};
 ghost use Rattle.session_store.specs.declared.state.State.TheVariants.{Down};
 
 use crate::held_slots::{HeldSlots, Layout};
 use crate::state::{
-    CompleteFlags, State, first_state, flags_now, go_down, put_down, put_idles, put_slots,
+    CompleteFlags, State, first_state, flags_now, go_down, is_complete, put_down, put_idles,
+    put_slots,
 };
 use flash_session::{Flash, OpenFault};
 use frag_session::{Heard, SetupReq, StatusAns, Via, View};
@@ -57,6 +58,8 @@ impl<F: Flash + Drop> Model for SessionStore<F> {
 }
 
 impl<F: Flash + Drop> SessionStore<F> {
+    ghost use Rattle.session_store.specs.declared.state.CompleteFlags.{CompleteFlags};
+
     /// Where `held` is false in memory alone, and no flash is called; else down over the flash, in four ranges that lie
     /// within it, until `power`. Memory comes where memory is missing, and the flash is dropped then.
     pub fn reserve(alloc: Global, flash: F, layout: Layout, held: bool) -> Result<Self, Memory>
@@ -239,6 +242,45 @@ impl<F: Flash + Drop> SessionStore<F> {
             Some(State::Memory(slots)) => slots.view(index),
             Some(State::Flash(slots)) => slots.view(index),
             _ => None,
+        }
+    }
+
+    /// Which sessions had their file whole when they were last up: now, or when they went down.
+    pub fn flags(&self) -> CompleteFlags
+        ensures { (flags : CompleteFlags) → HadWhole self.now.state flags → result ≡ flags }
+    {
+        match &self.state {
+            Some(State::Down(_, flags)) => *flags,
+            _ => CompleteFlags {
+                first: self.is_whole(0),
+                second: self.is_whole(1),
+                third: self.is_whole(2),
+                fourth: self.is_whole(3),
+            },
+        }
+    }
+
+    /// Whether the file of a session is whole.
+    #[tactic(auto, unfolding(frag_session::specs::HeldView::seen))]
+    fn is_whole(&self, index: u8) -> bool
+        requires { index < 4 }
+        ensures { (table : SessionTable) → StateStands self.now.state table
+            → result ≡ is_whole (view_of (session_at table index)) }
+    {
+        match self.view(index) {
+            Some(view) => is_complete(view.verdict),
+            None => false,
+        }
+    }
+
+    /// Says which had their file whole when they were last up, of sessions that are down.
+    pub fn set_flags(&mut self, flags: CompleteFlags)
+        requires { IsDown self.old.state }
+        ensures { (idles : _) (was : _) → self.old.state ≡ Down idles was
+            → self.new ≡ record self.old { state = Down idles flags } }
+    {
+        if let Some(State::Down(_, was)) = &mut self.state {
+            *was = flags;
         }
     }
 
