@@ -21,3 +21,11 @@ pub mod Downs
 pub mod Payloads
 pub mod Counted
 pub mod Messages
+pub mod Lying
+pub mod SavedFields
+pub mod SavedUplinks
+pub mod SavedSlots
+pub mod Saved
+pub mod Restored
+pub mod Restarts
+pub mod WorkedSaving

@@ -25,3 +25,8 @@ pub mod HeldCalls
 pub mod HeldPayloads
 pub mod HeldPower
 pub mod Aside
+pub mod Saving
+pub mod SavingInside
+pub mod HeldSaving
+pub mod Restarts
+pub mod WorkedSaving

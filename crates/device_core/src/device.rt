@@ -18,6 +18,7 @@ mod fragments;
 mod groups;
 mod hearing;
 mod radio;
+mod saving;
 mod windows;
 
 use crate::class_session::ClassSession;

@@ -16,8 +16,10 @@ ghost use Rattle.device_core.specs.Deliver.{delivery, waking};
 ghost use Rattle.device_core.specs.Radio.{heard_group, session_keys, aired, radio};
 ghost use Rattle.device_core.specs.Multicast.{MulticastActs};
 ghost use Rattle.device_core.specs.Power.{PowerIsQuiet};
+ghost use Rattle.device_core.specs.Restarts.{LastsThroughRestart};
 ghost use Rattle.device_core.specs.Running.{RunsImagesAlone};
 ghost use Rattle.device_core.specs.WholeFiles.{WholeFiles};
+ghost use Rattle.device_core.specs.WorkedSaving.{SavedDevices};
 ghost use Rattle.device_core.specs.WorkedSteps.{WorkedSteps};
 
 /// A reboot that is due is carried out once.
@@ -89,8 +91,21 @@ pub fn power_is_quiet()
     ensures { PowerIsQuiet }
 {}
 
+/// What is saved says one record, its sessions aside: a device that is restored of it, and finds its sessions in its flash,
+/// stands for the record that was saved, and no file is offered again.
+#[tactic(auto, using(crate::proofs::Restarts::lasts))]
+pub fn a_device_lasts_through_a_restart()
+    ensures { LastsThroughRestart }
+{}
+
 /// What a device sends, holds and hears, worked out in bytes.
 #[tactic(auto, using(crate::proofs::WorkedSteps::worked_steps))]
 pub fn worked_steps()
     ensures { WorkedSteps }
+{}
+
+/// What is saved of a device, worked out in bytes.
+#[tactic(auto, using(crate::proofs::WorkedSaving::saving))]
+pub fn saved_devices()
+    ensures { SavedDevices }
 {}

@@ -3,8 +3,10 @@
 //! A device is seen as the record of `specs/Device.antt`, with the lists of all fragments that its sessions heard: each
 //! call leaves what one function of `specs/Deliver.antt`, `Radio`, `Power` or `Firmware` makes of that record, and
 //! answers what that function answers.
-//! Only `Device::reserve` takes memory. Radio, clocks, random numbers, the flash and what runs the image are left to the caller.
-//! Its sessions are in memory alone, or held in the flash, and then outlast a stop: `power` opens them again.
+//! Only `Device::reserve` and `Device::restore` take memory. Radio, clocks, random numbers, the flash and what runs the image
+//! are left to the caller.
+//! Its sessions are in memory alone, or held in the flash, and then outlast a stop: `power` opens them again. All else that
+//! it knows outlasts its end where it is saved as bytes (`specs/Saving.antt`), and it is restored of them and its files.
 //!
 //!     let mut device = Device::reserve(alloc, config, flash)?; // all memory
 //!     device.power()?;                                         // where its sessions are held: they are up
@@ -12,6 +14,8 @@
 //!     device.radio(t, &bytes, random_word, mark);              // a multicast frame: foreign, or heard
 //!     while let Some(uplink) = device.take_uplink() { .. }     // uplink.due, uplink.port, uplink.payload
 //!     let file = device.session(0).map(|view| view.file);
+//!     let saved = device.save();                               // 492 bytes, to be kept with running and next_file
+//!     let device = Device::restore(alloc, config, flash, &saved, running, next)?; // memory, bad config, or corrupt
 #![tactic(auto)]
 
 mod arrival;
@@ -24,6 +28,8 @@ mod laws;
 mod moment;
 mod outbox;
 mod queued_uplink;
+mod saved_fields;
+mod saving;
 mod uplink;
 
 pub use arrival::Arrival;
@@ -33,9 +39,11 @@ pub use counts::Counts;
 pub use delivered::{Aired, Delivered, OutboxFull};
 pub use device::Device;
 pub use laws::{
-    a_frame_is_delivered, a_full_device_wakes_for_its_reboot_alone, a_whole_file_comes_once,
-    due_reboot_is_once, power_is_quiet, runs_images_alone, two_commands_act_by_multicast,
+    a_device_lasts_through_a_restart, a_frame_is_delivered,
+    a_full_device_wakes_for_its_reboot_alone, a_whole_file_comes_once, due_reboot_is_once,
+    power_is_quiet, runs_images_alone, saved_devices, two_commands_act_by_multicast,
     what_does_not_act_is_counted, worked_steps,
 };
 pub use moment::Moment;
+pub use saving::{MAX_SAVED_DEVICE, RestoreError, SavedDevice};
 pub use uplink::{Answer, Uplink};

@@ -1,12 +1,17 @@
 //! The uplinks that are not yet taken.
 
-ghost use Rattle.std.specs.Prelude.{◌≡◌, ◌<◌, ◌≤◌, ◌++◌, ◌∷◌, [], length, IfSome, Some, true, false};
+ghost use Rattle.std.specs.Prelude.{◌≡◌, ◌+◌, ◌*◌, ◌<◌, ◌≤◌, ◌++◌, ◌∷◌, [], length, IfSome, IfNone, Some, true, false};
+ghost use Rattle.std.specs.List.{flat_map, AllByRecursion};
 ghost use Rattle.device_core.specs.Answers.{uplink_of};
 ghost use Rattle.device_core.specs.Device.{outbox_size};
 ghost use Rattle.device_core.specs.HeldDevice.{TakesOldest};
+ghost use Rattle.device_core.specs.Saving.{uplink_bytes, uplinks_bytes};
+ghost use Rattle.device_core.specs.SavingInside.{uplink_at, uplinks_in};
 ghost use Rattle.device_core.specs.Sendable.{IsSendable, IsUplink};
 
 use crate::queued_uplink::QueuedUplink;
+use crate::saved_fields::u64_at;
+use crate::saving::{SavedDevice, put, put_zeros};
 use crate::uplink::{Answer, Uplink};
 use arrayvec::ArrayVec;
 use std::marker::Model;
@@ -74,6 +79,31 @@ impl Outbox {
         self.uplinks.clear();
     }
 
+    /// Those of a saved device's bytes; None exactly where one of them is no uplink.
+    pub fn read(saved: &[u8]) -> Option<Self>
+        requires { 460 ≤ length saved.now }
+        ensures uplinks { IfSome result (λ outbox. outbox ≡ uplinks_in saved.now) }
+        ensures spelled { IfSome result (λ outbox. AllByRecursion IsUplink outbox) }
+        ensures none { IfNone result (AllByRecursion IsUplink (uplinks_in saved.now) → ⊥) }
+    {
+        let mut uplinks = ArrayVec::new();
+        for k in 0..saved[203].min(8) {
+            uplinks.push(uplink_at(saved, 204 + 32 * k as u16)?);
+        }
+        Some(Outbox { uplinks })
+    }
+
+    /// Puts them as they are saved: their number, and 32 bytes for each of 8.
+    pub fn put(&self, to: &mut SavedDevice)
+        requires { length to.old.items ≤ 203 }
+        ensures bytes { to.new.items ≡ to.old.items ++ uplinks_bytes self.now }
+        ensures size { length to.new.items ≡ length to.old.items + 257 }
+    {
+        put(to, &[self.uplinks.len() as u8]);
+        put_all(to, self.uplinks.as_slice());
+        put_zeros(to, 256 - 32 * self.uplinks.len());
+    }
+
     /// Takes the oldest; None exactly where there is none.
     pub fn take(&mut self) -> Option<Uplink>
         ensures takes { TakesOldest self.old self.new result }
@@ -105,5 +135,29 @@ impl Outbox {
             // (it is written already)
             let _taken = self.uplinks.remove(0);
         }
+    }
+}
+
+/// The uplink at a place of a saved device's bytes; None exactly where it is none.
+fn uplink_at(saved: &[u8], at: u16) -> Option<QueuedUplink>
+    requires { at + 32 ≤ length saved.now }
+    ensures uplink { IfSome result (λ u. u ≡ uplink_at saved.now at) }
+    ensures spelled { IfSome result (λ u. IsUplink u) }
+    ensures none { IfNone result (IsUplink (uplink_at saved.now at) → ⊥) }
+{
+    let due = u64_at(saved, at);
+    let at = at as usize;
+    let length = saved[at + 9].min(22) as usize;
+    QueuedUplink::read(due, saved[at + 8], &saved[at + 10..at + 10 + length])
+}
+
+/// Puts uplinks as they are saved, one after another.
+fn put_all(to: &mut SavedDevice, uplinks: &[QueuedUplink])
+    requires { length to.old.items + 32 * length uplinks.now ≤ 492 }
+    ensures bytes { to.new.items ≡ to.old.items ++ flat_map uplink_bytes uplinks.now }
+    ensures size { length to.new.items ≡ length to.old.items + 32 * length uplinks.now }
+{
+    for uplink in uplinks {
+        uplink.put(to);
     }
 }

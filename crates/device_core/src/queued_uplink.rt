@@ -1,12 +1,14 @@
 //! An uplink while it waits: it has only as many bytes as a device's longest answer.
 
-ghost use Rattle.std.specs.Prelude.{◌≡◌, []};
+ghost use Rattle.std.specs.Prelude.{◌≡◌, ◌+◌, ◌≤◌, ◌++◌, [], length, IfSome, IfNone};
 ghost use Rattle.device_core.specs.Answers.{uplink_of};
-ghost use Rattle.device_core.specs.Sendable.{IsSendable};
+ghost use Rattle.device_core.specs.Saving.{uplink_bytes};
+ghost use Rattle.device_core.specs.Sendable.{IsSendable, IsUplink};
 
+use crate::saving::{SavedDevice, put, put_u64, put_zeros};
 use crate::uplink::{Answer, Uplink};
 use arrayvec::ArrayVec;
-use package_grammar::spell;
+use package_grammar::{Message, spell};
 use std::marker::Model;
 use wire_base::{Direction, Payload};
 
@@ -57,6 +59,39 @@ impl QueuedUplink {
             port: answer.port,
             bytes,
         }
+    }
+
+    /// That of a saved device: None exactly where its payload is no command that a device sends on that port.
+    pub fn read(due: u64, port: u8, payload: &[u8]) -> Option<Self>
+        ensures uplink { IfSome result
+            (λ u. u ≡ record { due = due; port = port; payload = payload.now }) }
+        ensures spelled { IfSome result (λ u. IsUplink u) }
+        ensures none { IfNone result
+            (IsUplink (record { due = due; port = port; payload = payload.now }) → ⊥) }
+    {
+        let Ok(mut message) = Message::read(port, Direction::Up, payload) else {
+            return None;
+        };
+        let command = message.next()?;
+        let uplink = QueuedUplink::of(Answer { due, port, command });
+        if uplink.bytes.as_slice() == payload {
+            Some(uplink)
+        } else {
+            None
+        }
+    }
+
+    /// Puts its bytes as they are saved.
+    pub fn put(&self, to: &mut SavedDevice)
+        requires { length to.old.items + 32 ≤ 492 }
+        ensures bytes { to.new.items ≡ to.old.items ++ uplink_bytes self.now }
+        ensures size { length to.new.items ≡ length to.old.items + 32 }
+    {
+        let length = self.bytes.len();
+        put_u64(to, self.due);
+        put(to, &[self.port, length as u8]);
+        put(to, self.bytes.as_slice());
+        put_zeros(to, LONGEST - length);
     }
 
     /// Written into an uplink without bytes.

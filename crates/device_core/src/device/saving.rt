@@ -1,0 +1,152 @@
+//! What the device knows, as bytes, and a device that is made of such bytes.
+
+ghost use Rattle.std.specs.Prelude.{◌≡◌, ◌↔◌, ◌≤◌, length, IsTrue};
+ghost use Rattle.image_slots.specs.declared.view.ImageState.{ImageState};
+ghost use Rattle.device_core.specs.Saving.{saved_of};
+ghost use Rattle.device_core.specs.SavingInside.{groups_in};
+ghost use Rattle.device_core.specs.SessionTable.{SessionTable};
+
+use super::Device;
+use crate::config::DeviceConfig;
+use crate::outbox::Outbox;
+use crate::saved_fields::{
+    NEXT, clock_in, counts_in, flags_in, moment_in, place_in, reboot_in, session_in, take_slots,
+};
+use crate::saving::{
+    MAX_SAVED_DEVICE, RestoreError, SavedDevice, config_bytes, digest_of, put, put_clock,
+    put_counts, put_flags, put_groups, put_moment, put_reboot, put_session, put_slots,
+    restore_error,
+};
+use flash_session::Flash;
+use mc_group::GroupTable;
+use session_store::CompleteFlags;
+use std::alloc::Global;
+
+impl<F: Flash + Drop> Device<F> {
+    ghost use Rattle.session_store.specs.declared.state.CompleteFlags.{CompleteFlags};
+    ghost use Rattle.device_core.specs.HeldDevice.{device_of};
+    ghost use Rattle.device_core.specs.HeldSaving.{IsRestored, Saves};
+    ghost use Rattle.device_core.specs.SavingInside.{Takes};
+
+    /// What it knows, as bytes that `restore` takes again, beside the files that its slots hold: to be kept before it
+    /// ends. They hold the keys of its groups, and neither its own key nor its sessions. It takes no memory.
+    pub fn save(&self) -> SavedDevice
+        ensures { Saves self.now result.items }
+    {
+        self.saved_with(self.sessions.flags())
+    }
+
+    /// The device whose bytes these are, with this configuration, the file that ran, and next, each empty where there was
+    /// none. Next is read again, so that it is valid only as it is. A device whose sessions are held is down until `power`,
+    /// and had its files whole as it was saved; another has no sessions. No flash is called. BadConfig comes exactly as at
+    /// `reserve`, and first; Corrupt exactly where no device of this configuration has these bytes and files. At an error
+    /// the flash is dropped.
+    pub fn restore(
+        alloc: Global,
+        config: DeviceConfig,
+        flash: F,
+        saved: &[u8],
+        running: &[u8],
+        next: &[u8],
+    ) -> Result<Self, RestoreError>
+        ensures { IsRestored config (F.seen flash).room flash saved.now running.now next.now result }
+    {
+        let mut device = match Self::reserve(alloc, config, flash) {
+            Ok(device) => device,
+            Err(error) => return Err(restore_error(error)),
+        };
+        if saved.len() != MAX_SAVED_DEVICE || !device.take_saved(saved, running, next) {
+            return Err(RestoreError::Corrupt);
+        }
+        let again = device.saved_with(flags_in(saved));
+        if is_same(again.as_slice(), saved) {
+            Ok(device)
+        } else {
+            Err(RestoreError::Corrupt)
+        }
+    }
+
+    /// The bytes of the file that was received to run next, none where there is none.
+    pub fn next_file(&self) -> &[u8]
+        ensures { result.now ≡ self.now.slots.next_file }
+    {
+        self.slots.next_file()
+    }
+
+    /// What it knows, with which sessions had their file whole.
+    #[tactic(auto, unfolding(crate::specs::Saving::saved_of, crate::specs::Saving::state_bytes))]
+    fn saved_with(&self, flags: CompleteFlags) -> SavedDevice
+        ensures { (table : SessionTable) → result.items ≡ saved_of (device_of self.now table) flags }
+    {
+        let mut saved = SavedDevice::new();
+        put_clock(&mut saved, &self.clock);
+        put_moment(&mut saved, self.last_due);
+        put_groups(&mut saved, &self.groups);
+        put_session(&mut saved, self.class_session);
+        put_reboot(&mut saved, self.reboot);
+        put_counts(&mut saved, self.counts);
+        put_slots(&mut saved, &self.slots);
+        put_flags(&mut saved, flags);
+        self.outbox.put(&mut saved);
+        let digest = digest_of(
+            saved.as_slice(),
+            config_bytes(&self.config).as_slice(),
+            self.slots.running().1,
+            self.slots.next_file(),
+        );
+        put(&mut saved, &digest);
+        saved
+    }
+
+    /// Takes the fields of bytes that need not be those of a device, and the files; false exactly where a file has no room,
+    /// one comes for a next that is none, or an uplink is none.
+    fn take_saved(&mut self, saved: &[u8], running: &[u8], next: &[u8]) -> bool
+        requires long { length saved.now ≡ 492 }
+        requires few { self.old.config.groups ≤ 4 }
+        requires places { length self.old.groups ≡ self.old.config.groups }
+        requires none { self.old.slots.next ≡ ImageState.None }
+        ensures { Takes self.old self.new saved.now running.now next.now result }
+    {
+        let area = self.config.area as usize;
+        if running.len() > area || next.len() > area {
+            return false;
+        }
+        if saved[NEXT] == 0 && !next.is_empty() {
+            return false;
+        }
+        let Some(outbox) = Outbox::read(saved) else {
+            return false;
+        };
+        self.outbox = outbox;
+        self.clock = clock_in(saved);
+        self.last_due = moment_in(saved);
+        take_groups(&mut self.groups, self.config.groups, saved);
+        self.class_session = session_in(saved);
+        self.reboot = reboot_in(saved);
+        self.counts = counts_in(saved);
+        take_slots(&mut self.slots, saved, running, next);
+        if self.sessions.is_down() {
+            self.sessions.set_flags(flags_in(saved));
+        }
+        true
+    }
+}
+
+/// Puts the groups that bytes say into a table of so many ids.
+fn take_groups(groups: &mut GroupTable, number: u8, saved: &[u8])
+    requires few { number ≤ 4 }
+    requires places { length groups.old ≡ number }
+    requires long { 460 ≤ length saved.now }
+    ensures { groups.new ≡ groups_in saved.now number }
+{
+    for id in 0..number {
+        groups.put(id, place_in(saved, id));
+    }
+}
+
+/// Whether the bytes are the same.
+fn is_same(some: &[u8], others: &[u8]) -> bool
+    ensures { IsTrue result ↔ (some.now ≡ others.now) }
+{
+    some == others
+}
