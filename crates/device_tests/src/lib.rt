@@ -11,4 +11,6 @@ mod power;
 #[cfg(test)]
 mod samples;
 #[cfg(test)]
+mod saving;
+#[cfg(test)]
 mod server;
