@@ -30,10 +30,6 @@ abbrev pub restore_error : ReserveError → RestoreError
 restore_error new.Memory = restored.Memory
 restore_error new.BadConfig = restored.BadConfig
 
--- bytes before the digest
-abbrev pub state_size : ℕ
-state_size = 460
-
 abbrev pub option_at : {A : Type 0} → (List ℕ → ℕ → A) → List ℕ → (at : ℕ) → Option A
 option_at fields bytes at = if slice_index bytes at == 0 then None else Some (fields bytes (at + 1))
 
