@@ -146,6 +146,57 @@ static int device_answers(void) {
     return 0;
 }
 
+/* A device ends and another is restored: with its clock's token and its uplinks, and what it received to run next. Each
+ * changed byte and each cut is refused, and so are another configuration and other files. */
+static int device_outlasts(void) {
+    static const uint8_t setup[11] = {0x02, 0x00, 0x03, 0x00, 0x02, 0x00, 0x01, 0x07, 0x00, 0x00, 0x00};
+    static const uint8_t rows[3][5] = {
+        {0x08, 0x01, 0x00, 0x11, 0x22}, {0x08, 0x02, 0x00, 0x33, 0x44}, {0x08, 0x03, 0x00, 0x55, 0x00}};
+    static const uint8_t *none = zeros;
+    fuota_device device = FUOTA_DEVICE_NONE;
+    fuota_config config = {.hw = 1, .offset = 0x01020304, .area = 12288, .rows = 16, .formats = 2, .sessions = 1,
+                           .groups = 1, .is_class_c = true};
+    fuota_arrival arrival = {.t = 1000};
+    fuota_uplink up = {0};
+    fuota_view view = {0};
+    uint8_t saved[FUOTA_SAVED_DEVICE], next[8];
+    size_t k;
+    int i;
+    memset(saved, 0xEE, sizeof saved);
+    SO(fuota_device_save(&device, saved, sizeof saved) == 0 && saved[0] == 0xEE);
+    SO(fuota_device_firmware(&device, true, 0, next, 8) == 0);
+    SO(fuota_device_new(&device, &config) == FUOTA_DONE);
+    SO(fuota_device_deliver(&device, 201, setup, sizeof setup, &arrival) == FUOTA_DONE);
+    for (i = 0; i < 3; i++)
+        SO(fuota_device_deliver(&device, 201, rows[i], 5, &arrival) == FUOTA_DONE);
+    SO(fuota_device_firmware(&device, true, 0, next, 8) == 5 && !memcmp(next, FILE_BYTES, 5));
+    SO(fuota_device_firmware(&device, true, 3, next + 5, 3) == 2 && next[5] == 0x44 && next[6] == 0x55);
+    SO(fuota_device_firmware(&device, false, 0, next, 8) == 0);
+    SO(fuota_device_save(&device, saved, sizeof saved - 1) == 0 && saved[0] == 0xEE);
+    SO(fuota_device_save(&device, saved, sizeof saved) == sizeof saved);
+    SO(!memcmp(saved, "FUSD\1\4\3\2\1\0", 10) && saved[10] == 1 && saved[186] == 1 && saved[203] == 1);
+    SO(fuota_device_restore(&device, &config, saved, sizeof saved, none, 0, next, 5) == FUOTA_DONE);
+    SO(fuota_device_view(&device, 0, &view) == FUOTA_NOTHING);
+    SO(fuota_device_firmware(&device, true, 0, next, 8) == 5 && !memcmp(next, FILE_BYTES, 5));
+    SO(fuota_device_take_uplink(&device, &up) == FUOTA_DONE && up.due == 1000 && up.port == 201 && up.length == 2);
+    SO(fuota_device_take_uplink(&device, &up) == FUOTA_NOTHING);
+    for (k = 0; k < sizeof saved; k++) {
+        saved[k] ^= 1;
+        SO(fuota_device_restore(&device, &config, saved, sizeof saved, none, 0, next, 5) == FUOTA_CORRUPT);
+        saved[k] ^= 1;
+        SO(fuota_device_restore(&device, &config, saved, k, none, 0, next, 5) == FUOTA_CORRUPT);
+        SO(device.at == NULL);
+    }
+    SO(fuota_device_restore(&device, &config, saved, sizeof saved, none, 0, next, 4) == FUOTA_CORRUPT);
+    SO(fuota_device_restore(&device, &config, saved, sizeof saved, none, 1, next, 5) == FUOTA_CORRUPT);
+    config.hw = 2;
+    SO(fuota_device_restore(&device, &config, saved, sizeof saved, none, 0, next, 5) == FUOTA_CORRUPT);
+    config.sessions = 5;
+    SO(fuota_device_restore(&device, &config, saved, sizeof saved, none, 0, next, 5) == FUOTA_RANGE);
+    SO(device.at == NULL);
+    return 0;
+}
+
 static int server_answers(const uint8_t *image, size_t length) {
     fuota_server server = FUOTA_SERVER_NONE;
     fuota_plan plan = {.frag_size = 13, .parity = 1};
@@ -263,6 +314,6 @@ int main(int argc, char **argv) {
         fclose(file);
     if (length != 52)
         return 2;
-    return without_objects() || receiver_answers() || device_answers() || server_answers(image, length)
-        || server_outlasts(image, length) || decode_answers();
+    return without_objects() || receiver_answers() || device_answers() || device_outlasts()
+        || server_answers(image, length) || server_outlasts(image, length) || decode_answers();
 }

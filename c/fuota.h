@@ -185,6 +185,24 @@ size_t fuota_device_file(fuota_device *handle, uint8_t index, size_t offset, uin
  * FUOTA_DONE; FUOTA_NO_OBJECT. */
 uint8_t fuota_device_running(fuota_device *handle, uint32_t *version);
 
+/* The bytes that a device saves. */
+#define FUOTA_SAVED_DEVICE 492
+
+/* What the device knows, as bytes for fuota_device_restore, at the front of `into`; their count, and 0 where they have no
+ * room, or without a device. They are saved after a call, before its uplinks go out. They hold the keys of its groups. */
+size_t fuota_device_save(fuota_device *handle, uint8_t *into, size_t room);
+
+/* Copies bytes of the image file that was received to run next, or else of the one that runs, from the offset on, as many as
+ * there are and have room; their count, 0 also where there is no file and without a device. */
+size_t fuota_device_firmware(fuota_device *handle, bool is_next, size_t offset, uint8_t *into, size_t room);
+
+/* Frees what was there, and puts the device of this configuration that saved these bytes into the handle, with the files
+ * that ran and that was received to run next, each of length 0 where there was none: FUOTA_DONE. Its sessions lay in
+ * memory, and are gone. There is no device after FUOTA_RANGE and FUOTA_NO_MEMORY, as of fuota_device_new, and after
+ * FUOTA_CORRUPT, where no such device saved them. */
+uint8_t fuota_device_restore(fuota_device *handle, const fuota_config *config, const uint8_t *saved, size_t saved_length,
+                             const uint8_t *running, size_t running_length, const uint8_t *next, size_t next_length);
+
 /* ---- The server of a campaign ---- */
 
 typedef struct fuota_server {

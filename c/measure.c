@@ -16,7 +16,7 @@
 enum { STACK = 1 << 18, PAINT = 0xA5 };
 
 static uint8_t stack[STACK], image[262144], small[12288], file[262144];
-static size_t image_length, small_length, saved_length;
+static size_t image_length, small_length, saved_length, kept_length, file_length;
 static ucontext_t here, there;
 
 static fuota_receiver receiver = FUOTA_RECEIVER_NONE;
@@ -33,7 +33,7 @@ static fuota_uplink up;
 static fuota_stage stage;
 static fuota_view view;
 static fuota_decoded decoded;
-static uint8_t text[1000], saved[FUOTA_SAVED_SERVER], answer, field;
+static uint8_t text[1000], saved[FUOTA_SAVED_SERVER], kept[FUOTA_SAVED_DEVICE], answer, field;
 static uint32_t version;
 static int most = -1;
 
@@ -57,6 +57,11 @@ static void device_take_uplink(void) { answer = fuota_device_take_uplink(&device
 static void device_view(void) { answer = fuota_device_view(&device, 0, &view); }
 static void device_file(void) { fuota_device_file(&device, 0, 0, file, sizeof file); }
 static void device_running(void) { answer = fuota_device_running(&device, &version); }
+static void device_save(void) { kept_length = fuota_device_save(&device, kept, sizeof kept); }
+static void device_firmware(void) { file_length = fuota_device_firmware(&device, true, 0, file, sizeof file); }
+static void device_restore(void) {
+    answer = fuota_device_restore(&device, &config, kept, kept_length, kept, 0, file, file_length);
+}
 static void server_new(void) {
     answer = fuota_server_new(&server, &plan, keys, sizeof keys, image, image_length, &field);
 }
@@ -91,6 +96,7 @@ static call calls[] = {
     {device_deliver, "device_deliver", 0}, {device_wake, "device_wake", 0},
     {device_take_uplink, "device_take_uplink", 0},
     {device_view, "device_view", 0}, {device_file, "device_file", 0}, {device_running, "device_running", 0},
+    {device_save, "device_save", 0}, {device_firmware, "device_firmware", 0}, {device_restore, "device_restore", 0},
     {server_new, "server_new", 0}, {server_free, "server_free", 0}, {server_next_fragment, "server_next_fragment", 0},
     {server_status_all, "server_status_all", 0}, {server_ask, "server_ask", 0}, {server_uplink, "server_uplink", 0},
     {server_ledger, "server_ledger", 0}, {server_save, "server_save", 0}, {server_restore, "server_restore", 0},
@@ -176,6 +182,9 @@ static void play(int campaign) {
     made(device_view);
     made(device_file);
     made(device_running);
+    made(device_save);
+    made(device_firmware);
+    made(device_restore);
     printf("campaign %d: verdict %d, %d pieces missing, the longest deliver is number %d: %.3f ms\n", campaign,
            view.verdict, view.missing, longest_at, longest / 1e6);
     made(server_free);

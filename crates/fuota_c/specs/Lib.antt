@@ -3,3 +3,4 @@ pub mod Shown
 pub mod Receiver
 pub mod Decoded
 pub mod Device
+pub mod Saving

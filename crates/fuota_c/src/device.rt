@@ -114,7 +114,8 @@ fn boxed(alloc: Global, config: DeviceConfig) -> Result<Box<Device<CellFlash>>, 
     }
 }
 
-fn config_of(fields: &ConfigFields) -> DeviceConfig
+/// The configuration of these fields.
+pub fn config_of(fields: &ConfigFields) -> DeviceConfig
     ensures { result ≡ config_of fields.now }
 {
     let class = if fields.is_class_c {

@@ -9,4 +9,5 @@ mod device;
 mod device_handle;
 mod receiver;
 mod receiver_handle;
+mod saving;
 mod shown;

@@ -1,0 +1,145 @@
+//! A device outlasts its process: what it saves, the files of its slots, and the device that comes back of both.
+
+ghost use Rattle.std.specs.Prelude.{◌≡◌, false};
+ghost use Rattle.core.specs.Result.{result_map_both};
+ghost use Rattle.c_base.specs.Bytes.{Copied};
+ghost use Rattle.c_base.specs.Calls.{Tells};
+ghost use Rattle.fuota_c.specs.Device.{config_of};
+ghost use Rattle.fuota_c.specs.Saving.{IsDeviceBack, IsRestored, SavesTo, slot_file};
+
+use crate::device::{ConfigFields, config_of, fuota_device_free};
+use crate::device_handle::DeviceHandle;
+use c_base::answer::{CORRUPT, DONE, NO_MEMORY, RANGE};
+use c_base::{copy_part, put_whole};
+use device_core::{Device, DeviceConfig, RestoreError, is_config};
+use flash_session::CellFlash;
+use std::alloc::Global;
+
+/// What the device knows, as 492 bytes for `fuota_device_restore`, to the front of `into`; their count, and 0 where they have
+/// no room, or without a device.
+#[unsafe(no_mangle)]
+pub extern "C" fn fuota_device_save(
+    handle: &mut DeviceHandle,
+    alloc: Global,
+    into: &mut [u8],
+) -> usize
+    ensures same { handle.new.held ≡ handle.old.held }
+    ensures saved { Tells handle.old.held (λ x. SavesTo x into.old into.new result)
+        ((result ≡ 0) × (into.new ≡ into.old)) }
+{
+    match handle.take(alloc) {
+        None => 0,
+        Some(device) => {
+            let count = save(&device, into);
+            *handle = DeviceHandle::of(device);
+            count
+        }
+    }
+}
+
+fn save(device: &Device<CellFlash>, into: &mut [u8]) -> usize
+    ensures { SavesTo device.now into.old into.new result }
+{
+    put_whole(device.save().as_slice(), into)
+}
+
+/// Copies bytes of the file that was received to run next, or of the one that runs, from the offset on, as many as there are
+/// and have room; their count.
+#[unsafe(no_mangle)]
+pub extern "C" fn fuota_device_firmware(
+    handle: &mut DeviceHandle,
+    alloc: Global,
+    is_next: bool,
+    offset: usize,
+    into: &mut [u8],
+) -> usize
+    ensures same { handle.new.held ≡ handle.old.held }
+    ensures file { Tells handle.old.held
+        (λ x. Copied (slot_file x is_next) offset into.old into.new result)
+        ((result ≡ 0) × (into.new ≡ into.old)) }
+{
+    match handle.take(alloc) {
+        None => 0,
+        Some(device) => {
+            let count = copy_part(slot_file(&device, is_next), offset, into);
+            *handle = DeviceHandle::of(device);
+            count
+        }
+    }
+}
+
+fn slot_file(device: &Device<CellFlash>, is_next: bool) -> &[u8]
+    ensures { result.now ≡ slot_file device.now is_next }
+{
+    if is_next {
+        device.next_file()
+    } else {
+        device.slots().running().1
+    }
+}
+
+/// Frees what was there, and puts the device of this configuration that saved these bytes, with the files of its slots, into
+/// the handle, without sessions: done; out of range as `fuota_device_new`; corrupt where no such device saved them; no memory.
+/// But for done there is no device.
+#[unsafe(no_mangle)]
+pub extern "C" fn fuota_device_restore(
+    handle: &mut DeviceHandle,
+    alloc: Global,
+    config: &ConfigFields,
+    saved: &[u8],
+    running: &[u8],
+    next: &[u8],
+) -> u8
+    ensures { IsDeviceBack (config_of config.now) saved.now running.now next.now handle.new.held
+        result }
+{
+    fuota_device_free(handle, alloc);
+    match boxed(alloc, config_of(config), saved, running, next) {
+        Ok(device) => {
+            *handle = DeviceHandle::of(device);
+            DONE
+        }
+        Err(RestoreError::BadConfig) => RANGE,
+        Err(RestoreError::Corrupt) => CORRUPT,
+        Err(RestoreError::Memory) => NO_MEMORY,
+    }
+}
+
+fn boxed(
+    alloc: Global,
+    config: DeviceConfig,
+    saved: &[u8],
+    running: &[u8],
+    next: &[u8],
+) -> Result<Box<Device<CellFlash>>, RestoreError>
+    requires { config.held ≡ false }
+    ensures { IsRestored config saved.now running.now next.now
+        (result_map_both (λ b. b.value) (λ e. e) result) }
+{
+    match restored(alloc, config, saved, running, next) {
+        Err(error) => Err(error),
+        Ok(device) => match Box::new(alloc, device) {
+            Err(_) => Err(RestoreError::Memory),
+            Ok(device) => Ok(device),
+        },
+    }
+}
+
+fn restored(
+    alloc: Global,
+    config: DeviceConfig,
+    saved: &[u8],
+    running: &[u8],
+    next: &[u8],
+) -> Result<Device<CellFlash>, RestoreError>
+    requires { config.held ≡ false }
+    ensures { IsRestored config saved.now running.now next.now result }
+{
+    if !is_config(&config) {
+        return Err(RestoreError::BadConfig);
+    }
+    let Ok(flash) = CellFlash::reserve(alloc, 0) else {
+        return Err(RestoreError::Memory);
+    };
+    Device::restore(alloc, config, flash, saved, running, next)
+}
