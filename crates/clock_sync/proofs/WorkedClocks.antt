@@ -14,10 +14,13 @@ worked = record {
   put_ahead = refl;
   raised = refl;
   other_token = refl;
+  lower_token = refl;
   back = refl;
   on = refl;
   half = refl;
   right = refl;
   required = refl;
   wrong = refl;
+  late = refl;
+  both = refl;
 }

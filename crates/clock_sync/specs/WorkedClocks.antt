@@ -17,6 +17,7 @@ pub record WorkedClocks : Type 0 where
   pub put_ahead : after_answer (pos 5) 15 (record { offset = 2 ^ 32 - 2; token = 15 }) ≡ record { offset = 3; token = 0 }
   pub raised : after_answer (pos 0) 7 (record { offset = 5; token = 7 }) ≡ record { offset = 5; token = 8 }
   pub other_token : after_answer (neg_ℤ (pos 5)) 1 ahead ≡ ahead
+  pub lower_token : after_answer (pos 5) 6 (record { offset = 5; token = 7 }) ≡ record { offset = 5; token = 7 }
   -- the correction is the shorter way to the server's time
   pub back : correction_of 10 15 ≡ neg_ℤ (pos 5)
   pub on : correction_of 1 (2 ^ 32 - 1) ≡ pos 2
@@ -25,3 +26,5 @@ pub record WorkedClocks : Type 0 where
   pub right : is_answer_needed false (correction_of 10 10) ≡ false
   pub required : is_answer_needed true (correction_of 10 10) ≡ true
   pub wrong : is_answer_needed false (correction_of 10 15) ≡ true
+  pub late : is_answer_needed false (correction_of 15 10) ≡ true
+  pub both : is_answer_needed true (correction_of 10 15) ≡ true
