@@ -3,7 +3,7 @@ use Rattle.std.specs.Prelude.{◌≡◌, ◌↔◌, ℕ, ◌+◌, ◌*◌, ◌/�
 use Rattle.std.specs.List.{AllByRecursion}
 use Rattle.frag_model.specs.Parity.{prbs23, modulus, residues, columns_drawn, line, draws}
 use Rattle.frag_model.specs.Gain.{gain_of, direct_of, gain, direct, excess}
-use Rattle.frag_model.specs.Fragments.{Fragment, Shape, IsUncoded, file_of}
+use Rattle.frag_model.specs.Fragments.{Fragment, Shape, IsUncoded, line_of, draws_of, xor_bytes, file_of}
 use Rattle.frag_model.specs.Verdict.{Verdict, verdict, verdict_now, IsVerdict, IsVerdictNow, FittingBlock, OneBlockFits}
 use Rattle.frag_model.specs.File.{OneFileFits}
 use Rattle.frag_model.specs.Limits.{max_parity_index, max_pieces}
@@ -55,7 +55,7 @@ pub record EveryLineHasEnoughDraws : Type 0 where
   -- and the last of them in the 25 states for each
   pub draws : (n cols : ℕ) → draws n cols ≤ 25 * (cols / 2)
 
--- worked values of the standard's generator, and of gain and excess over four pieces, numbers newest first
+-- worked values of the standard's generator, of lines, and of gain and excess over four pieces, numbers newest first
 pub record WorkedValues : Type 0 where
   pub state : prbs23 1002 ≡ 4194805
   pub two_columns : line 1 2 ≡ 2
@@ -67,12 +67,29 @@ pub record WorkedValues : Type 0 where
   pub line_5 : line 5 4 ≡ 9
   pub drawn_twice : columns_drawn 7 4 ≡ 3 ∷ 3 ∷ []
   pub line_7 : line 7 4 ≡ 8
+  -- over a number of columns that is no power of two, odd and even, states are divided by that number
+  pub five_columns : line 9 5 ≡ 24
+  pub six_columns : line 4 6 ≡ 52
   pub rejected : take 4 (residues 9 4) ≡ 4 ∷ 3 ∷ 4 ∷ 1 ∷ []
   pub draws_9 : draws 9 4 ≡ 4
   pub one_piece : line 1 1 ≡ 0
   pub no_draw : draws 1 1 ≡ 0
+  -- over four pieces the last of these is fragment 4, and the first coded one fragment 5
+  pub last_piece : line_of 4 4 ≡ 8
+  pub first_coded : line_of 4 5 ≡ 5
+  pub third_coded : line_of 4 7 ≡ 10
+  pub piece_draws : draws_of 4 4 ≡ 0
+  pub coded_draws : draws_of 4 13 ≡ 4
   pub all_pieces : gain_of 4 (2 ∷ 3 ∷ 1 ∷ 4 ∷ []) ≡ 4
   pub two_and_two : gain_of 4 (8 ∷ 7 ∷ 3 ∷ 1 ∷ []) ≡ 4
   pub direct_two : direct_of 4 (8 ∷ 7 ∷ 3 ∷ 1 ∷ []) ≡ 2
   pub equal_lines : gain_of 4 (6 ∷ 5 ∷ 1 ∷ []) ≡ 2
   pub repeats : gain_of 4 (2 ∷ 2 ∷ 2 ∷ []) ≡ 1
+  pub last_direct : direct_of 4 (4 ∷ 5 ∷ []) ≡ 1
+  pub direct_again : direct_of 4 (4 ∷ 4 ∷ []) ≡ 1
+  -- the shorter of two lists goes on with zeros
+  pub shorter_first : xor_bytes (5 ∷ []) (3 ∷ 9 ∷ []) ≡ 6 ∷ 9 ∷ []
+  pub shorter_second : xor_bytes (3 ∷ 9 ∷ []) (5 ∷ []) ≡ 6 ∷ 9 ∷ []
+  -- 3 bytes of padding at the end of two pieces of 4
+  pub unpadded : file_of 3 (record { nb_frag = 2; frag_size = 4; rows = 1 }) ((1 ∷ 2 ∷ 3 ∷ 4 ∷ []) ∷ (5 ∷ 6 ∷ 7 ∷ 8 ∷ []) ∷ [])
+      ≡ 1 ∷ 2 ∷ 3 ∷ 4 ∷ 5 ∷ []
