@@ -15,6 +15,8 @@ codes = record {
   block = refl;
   part = refl;
   four = refl;
+  carried = refl;
+  not_carried = refl;
 }
 
 -- the payload encrypted, and the MIC of each message, by which the frames and their faults are known
@@ -93,6 +95,8 @@ order = record {
   count = refl;
   short_alone = refl;
   long_alone = refl;
+  longest_alone = refl;
+  pending_alone = refl;
   header_alone = refl;
   alone = refl;
 }

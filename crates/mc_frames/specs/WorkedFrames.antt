@@ -2,7 +2,7 @@
 use Rattle.std.specs.Prelude.{◌≡◌, ℕ, List, [], ◌∷◌, ◌++◌, take, drop, replicate, Some, None}
 use Rattle.mc_frames.specs.declared.session.Keys.{Keys}
 use Rattle.mc_frames.specs.declared.fault.FrameFault.TheVariants.{Short, Long, Header, Address, Port, Count, Mic}
-use Rattle.mc_frames.specs.Cmac.{cmac}
+use Rattle.mc_frames.specs.Cmac.{subkey, cmac}
 use Rattle.mc_frames.specs.Frames.{stream_byte, frame_of}
 use Rattle.mc_frames.specs.Opening.{fault_of, fault_without_group}
 
@@ -27,6 +27,9 @@ pub record WorkedCodes : Type 0 where
   pub block : cmac example_key example_block ≡ 0x07 ∷ 0x0a ∷ 0x16 ∷ 0xb4 ∷ 0x6b ∷ 0x4d ∷ 0x41 ∷ 0x44 ∷ 0xf7 ∷ 0x9b ∷ 0xdd ∷ 0x9d ∷ 0xd0 ∷ 0x4a ∷ 0x28 ∷ 0x7c ∷ []
   pub part : cmac example_key example_40 ≡ 0xdf ∷ 0xa6 ∷ 0x67 ∷ 0x47 ∷ 0xde ∷ 0x9a ∷ 0xe6 ∷ 0x30 ∷ 0x30 ∷ 0xca ∷ 0x32 ∷ 0x61 ∷ 0x14 ∷ 0x97 ∷ 0xc8 ∷ 0x27 ∷ []
   pub four : cmac example_key example_64 ≡ 0x51 ∷ 0xf0 ∷ 0xbe ∷ 0xbf ∷ 0x7e ∷ 0x3b ∷ 0x9d ∷ 0x92 ∷ 0xfc ∷ 0x49 ∷ 0x74 ∷ 0x17 ∷ 0x79 ∷ 0x36 ∷ 0x3c ∷ 0xfe ∷ []
+  -- a subkey of a block whose first byte is 80, and of 7f
+  pub carried : subkey (0x80 ∷ replicate 15 0) ≡ replicate 15 0 ++ 0x87 ∷ []
+  pub not_carried : subkey (0x7f ∷ replicate 15 0) ≡ 0xfe ∷ replicate 15 0
 
 -- two session keys
 abbrev pub worked_keys : Keys
@@ -93,5 +96,7 @@ pub record WorkedOrder : Type 0 where
   pub count : fault_of worked_keys 0x11223344 2 65537 (worked_frame 0xed) ≡ Some Count
   pub short_alone : fault_without_group (take 12 (worked_frame 0xec)) ≡ Short
   pub long_alone : fault_without_group (replicate 256 0) ≡ Long
+  pub longest_alone : fault_without_group (replicate 255 0) ≡ Header
+  pub pending_alone : fault_without_group pending_frame ≡ Address
   pub header_alone : fault_without_group (replicate 13 0) ≡ Header
   pub alone : fault_without_group (worked_frame 0xec) ≡ Address
