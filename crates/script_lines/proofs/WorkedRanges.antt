@@ -87,6 +87,7 @@ pub limits : AreLimits
 unfolding hex_bytes_of decode_pairs
 limits = record {
   lines = refl;
+  flash_devices = refl;
   longest = refl;
   longer = refl;
   most_hex = refl;

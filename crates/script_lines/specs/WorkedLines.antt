@@ -35,6 +35,10 @@ pub record AreForms : Type 0 where
       ≡ Some (Device 2 class.C 2 3 4 (0 ∷ 1 ∷ 2 ∷ 3 ∷ 4 ∷ 5 ∷ 6 ∷ 7 ∷ 8 ∷ 9 ∷ 10 ∷ 11 ∷ 12 ∷ 13 ∷ 14 ∷ 15 ∷ []) (Some 10) false false true)
   pub device_k11_flash : form_of (codes "device 2 c 2 3 4 000102030405060708090a0b0c0d0e0f k11 flash")
       ≡ Some (Device 2 class.C 2 3 4 (0 ∷ 1 ∷ 2 ∷ 3 ∷ 4 ∷ 5 ∷ 6 ∷ 7 ∷ 8 ∷ 9 ∷ 10 ∷ 11 ∷ 12 ∷ 13 ∷ 14 ∷ 15 ∷ []) None false true true)
+  pub device_v1_flash : form_of (codes "device 2 c 2 3 4 000102030405060708090a0b0c0d0e0f v1 flash")
+      ≡ Some (Device 2 class.C 2 3 4 (0 ∷ 1 ∷ 2 ∷ 3 ∷ 4 ∷ 5 ∷ 6 ∷ 7 ∷ 8 ∷ 9 ∷ 10 ∷ 11 ∷ 12 ∷ 13 ∷ 14 ∷ 15 ∷ []) None true false true)
+  pub device_both_flash : form_of (codes "device 2 c 2 3 4 000102030405060708090a0b0c0d0e0f 0000000a v1 flash")
+      ≡ Some (Device 2 class.C 2 3 4 (0 ∷ 1 ∷ 2 ∷ 3 ∷ 4 ∷ 5 ∷ 6 ∷ 7 ∷ 8 ∷ 9 ∷ 10 ∷ 11 ∷ 12 ∷ 13 ∷ 14 ∷ 15 ∷ []) (Some 10) true false true)
   pub device_with_flash_too : form_of (codes "device 2 c 2 3 4 000102030405060708090a0b0c0d0e0f 0000000a v1 k11 flash")
       ≡ Some (Device 2 class.C 2 3 4 (0 ∷ 1 ∷ 2 ∷ 3 ∷ 4 ∷ 5 ∷ 6 ∷ 7 ∷ 8 ∷ 9 ∷ 10 ∷ 11 ∷ 12 ∷ 13 ∷ 14 ∷ 15 ∷ []) (Some 10) true true true)
   pub at : form_of (codes "at 4294967295999") ≡ Some (At 4294967295999)
@@ -95,6 +99,36 @@ pub record AreNone : Type 0 where
   pub empty_hex : form_of (codes "raw 7 201 ") ≡ None
   pub empty_hex_before_word : form_of (codes "raw 7 201  12") ≡ None
   pub two_dashes : form_of (codes "raw 7 201 --") ≡ None
+  -- each form has its number of words, and no more or fewer
+  pub header_more : form_of (codes "fuota 1 1") ≡ None
+  pub image_more : form_of (codes "image 13 4 0") ≡ None
+  pub image_fewer : form_of (codes "image 13") ≡ None
+  pub group_more : form_of (codes "group 11223344 00000000000000000000000000000000 0 10 1") ≡ None
+  pub group_fewer : form_of (codes "group 11223344 00000000000000000000000000000000 0") ≡ None
+  pub window_c_more : form_of (codes "window c 1000 1 8695250 5 6") ≡ None
+  pub window_c_fewer : form_of (codes "window c 1000 1 8695250") ≡ None
+  pub window_b_more : form_of (codes "window b 1000 3 1 8695250 5 6") ≡ None
+  pub window_b_fewer : form_of (codes "window b 1000 1 8695250 5") ≡ None
+  pub device_fewer : form_of (codes "device 1 a 2 3 4") ≡ None
+  pub down_more : form_of (codes "down 3 7 12 1") ≡ None
+  pub down_fewer : form_of (codes "down 3") ≡ None
+  pub raw_more : form_of (codes "raw 7 201 0801 12 1") ≡ None
+  pub air_more : form_of (codes "air 3 7 12 1") ≡ None
+  pub air_fewer : form_of (codes "air 3") ≡ None
+  pub raw_air_more : form_of (codes "rawair 7 60 12 1") ≡ None
+  pub raw_air_fewer : form_of (codes "rawair 7") ≡ None
+  pub up_more : form_of (codes "up 3 4") ≡ None
+  pub frag_more : form_of (codes "frag 1") ≡ None
+  pub status_more : form_of (codes "status 1") ≡ None
+  pub end_more : form_of (codes "end 1") ≡ None
+  -- a key has 32 digits, an address 8, and what is a number has digits alone
+  pub long_key : form_of (codes "group 11223344 0000000000000000000000000000000000 0 10") ≡ None
+  pub long_address : form_of (codes "group 1122334455 00000000000000000000000000000000 0 10") ≡ None
+  pub capital_class : form_of (codes "device 1 A 2 3 4 00000000000000000000000000000000") ≡ None
+  pub no_number : form_of (codes "image x 4") ≡ None
+  pub no_time : form_of (codes "at x") ≡ None
+  pub no_word_number : form_of (codes "down 3 7 x") ≡ None
+  pub no_raw_word : form_of (codes "raw 7 201 0801 x") ≡ None
 
 -- lines between line feeds, and words between spaces
 pub record AreCut : Type 0 where
@@ -103,6 +137,8 @@ pub record AreCut : Type 0 where
   pub feeds : lines_of (97 ∷ 10 ∷ 10 ∷ 98 ∷ 10 ∷ []) ≡ codes "a" ∷ [] ∷ codes "b" ∷ []
   pub no_feed_at_the_end : lines_of (97 ∷ 10 ∷ 98 ∷ []) ≡ codes "a" ∷ codes "b" ∷ []
   pub another_control : lines_of (97 ∷ 13 ∷ 98 ∷ []) ≡ (97 ∷ 13 ∷ 98 ∷ []) ∷ []
+  pub two_feeds : lines_of (10 ∷ 10 ∷ []) ≡ [] ∷ [] ∷ []
+  pub space_alone : words_of (codes " ") ≡ [] ∷ [] ∷ []
   pub spaces : words_of (codes "a  b") ≡ codes "a" ∷ [] ∷ codes "b" ∷ []
   pub tab : words_of (97 ∷ 9 ∷ 98 ∷ []) ≡ (97 ∷ 9 ∷ 98 ∷ []) ∷ []
 
@@ -111,7 +147,12 @@ pub record AreNumbers : Type 0 where
   pub zero : decimal_of (codes "0") ≡ Some 0
   pub two_zeros : decimal_of (codes "00") ≡ None
   pub no_digit : decimal_of [] ≡ None
+  pub letter : decimal_of (codes "a") ≡ None
+  pub letter_behind : decimal_of (codes "5a") ≡ None
+  pub letter_before : decimal_of (codes "a5") ≡ None
+  pub digits : decimal_of (codes "907") ≡ Some 907
   pub largest : decimal_of (codes "18446744073709551615") ≡ Some (2 ^ 64 - 1)
   pub above : decimal_of (codes "18446744073709551616") ≡ Some (2 ^ 64 - 1)
   pub hex : hex_number_of (codes "1a2B3c4D") ≡ Some 0x1a2b3c4d
   pub seven_digits : hex_number_of (codes "1a2B3c4") ≡ None
+  pub ten_digits : hex_number_of (codes "1a2B3c4D5e") ≡ None

@@ -56,3 +56,30 @@ pub record AreNoPairForms : Type 0 where
   pub power_of_campaign : spells (codes "power a 7") ≡ None
   pub raw : spells (codes "raw 7 201 0801") ≡ None
   pub raw_air : spells (codes "rawair 7 60") ≡ None
+  -- each form has its number of words, its campaign's letter counted, and no more or fewer
+  pub header_more : spells (codes "fuota 2 1") ≡ None
+  pub image_more : spells (codes "image a 13 4 3 1") ≡ None
+  pub group_more : spells (codes "group b 2 1122334a 00000000000000000000000000000000 0 10 1") ≡ None
+  pub group_fewer : spells (codes "group b 1122334a 00000000000000000000000000000000 0 10") ≡ None
+  pub window_c_more : spells (codes "window a c 1000 1 8695250 5 6") ≡ None
+  pub window_of_none : spells (codes "window c 1000 1 8695250 5") ≡ None
+  pub window_b_more : spells (codes "window b b 1000 3 1 8695250 5 6") ≡ None
+  pub device_of_none : spells (codes "device 1 a 2 3 4 00000000000000000000000000000000") ≡ None
+  pub device_more : spells (codes "device 2 a c 2 3 4 00000000000000000000000000000000 0000000a v1 k11 k11") ≡ None
+  pub frag_more : spells (codes "frag b b") ≡ None
+  pub status_more : spells (codes "status a a") ≡ None
+  pub status_of_none : spells (codes "status") ≡ None
+  pub down_more : spells (codes "down a3 7 12 1") ≡ None
+  pub down_fewer : spells (codes "down a3") ≡ None
+  pub air_more : spells (codes "air a3 7 12 1") ≡ None
+  pub up_more : spells (codes "up b12 1") ≡ None
+  pub at_more : spells (codes "at 5 5") ≡ None
+  pub end_of_campaign : spells (codes "end a") ≡ None
+  -- a payload or an uplink has the letter of a campaign, a or b, before its digits
+  pub third_payload : spells (codes "down c3 7") ≡ None
+  pub third_air : spells (codes "air c3 7") ≡ None
+  pub air_of_none : spells (codes "air 3 7") ≡ None
+  pub up_of_none : spells (codes "up 12") ≡ None
+  pub third_up : spells (codes "up c12") ≡ None
+  pub capital_up : spells (codes "up B12") ≡ None
+  pub letter_behind : spells (codes "up 12b") ≡ None

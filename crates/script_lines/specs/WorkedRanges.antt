@@ -3,7 +3,7 @@ use Rattle.std.specs.Prelude.{◌≡◌, ℕ, ◌+◌, ◌-◌, ◌^◌, true, f
 use Rattle.script_lines.specs.declared.forms.Class.TheVariants as class
 use Rattle.script_lines.specs.declared.forms.Form.{Form}
 use Rattle.script_lines.specs.declared.forms.Form.TheVariants.{Header, Image, Group, WindowC, WindowB, Device, At, Wake, Migrate, Power, Ask, Frag, Status, Down, Raw, Air, RawAir, Up, End}
-use Rattle.script_lines.specs.Limits.{max_lines}
+use Rattle.script_lines.specs.Limits.{max_lines, max_flash_devices}
 use Rattle.script_lines.specs.Numbers.{hex_bytes_of}
 use Rattle.script_lines.specs.Pieces.{cut}
 use Rattle.script_lines.specs.Ranges.{in_range}
@@ -99,8 +99,9 @@ pub record AreRanges : Type 0 where
   pub end : in_range End ≡ true
 
 pub record AreLimits : Type 0 where
-  -- lines of a script
+  -- lines of a script, and devices in flash
   pub lines : max_lines ≡ 20000
+  pub flash_devices : max_flash_devices ≡ 4
   -- a line of 600 bytes is handed out whole, of a longer one 601 bytes
   pub longest : length (cut (replicate 600 65)) ≡ 600
   pub longer : length (cut (replicate 602 65)) ≡ 601
