@@ -13,6 +13,7 @@ sync_texts = record {
   time_req_of_right = refl;
   time_ans = refl;
   time_ans_back = refl;
+  time_ans_zero = refl;
   period_req = refl;
   period_ans = refl;
   period_ans_fine = refl;
@@ -26,6 +27,7 @@ sync_texts = record {
   image_req = refl;
   image_ans = refl;
   image_ans_of_none = refl;
+  image_ans_of_0 = refl;
   delete_image_req = refl;
   delete_image_ans = refl;
 }
@@ -45,10 +47,12 @@ fragment_texts = record {
   index_unsupported = refl;
   no_memory = refl;
   encoding_unsupported = refl;
+  all_refused = refl;
   delete_req = refl;
   delete_ans = refl;
   deleted = refl;
   fragment = refl;
+  no_bytes = refl;
 }
 
 pub group_texts : GroupTexts
@@ -56,6 +60,7 @@ unfolding digits encode_with
 group_texts = record {
   status_req = refl;
   status_ans = refl;
+  three_groups = refl;
   one_group = refl;
   no_group = refl;
   setup_req = refl;
@@ -69,9 +74,13 @@ group_texts = record {
   c_undefined = refl;
   c_freq = refl;
   c_dr = refl;
+  c_all = refl;
+  c_now = refl;
   b_req = refl;
   b_ans = refl;
   b_undefined = refl;
   b_freq = refl;
   b_dr = refl;
+  b_all = refl;
+  b_now = refl;
 }

@@ -116,6 +116,28 @@ pub record WorkedMessages : Type 0 where
       ≡ Err (record { at = 5; why = Short })
   pub not_up : reading_of 201 Up (0x08 ∷ 0x01 ∷ 0x00 ∷ 0x11 ∷ [])
       ≡ Err (record { at = 0; why = UnknownCommand })
+  -- a command that is unknown is refused at its own place, and one that is cut at the end of the payload
+  pub unknown_behind : reading_of 201 Down (0x03 ∷ 0x01 ∷ 0x09 ∷ 0x00 ∷ [])
+      ≡ Err (record { at = 2; why = UnknownCommand })
+  pub cut : reading_of 203 Down (0x01 ∷ 0x02 ∷ 0x0f ∷ [])
+      ≡ Err (record { at = 3; why = Short })
+  pub group_cut : reading_of 200 Up (0x01 ∷ 0x49 ∷ 0x00 ∷ 0x44 ∷ 0x33 ∷ 0x22 ∷ 0x11 ∷ 0x03 ∷ [])
+      ≡ Err (record { at = 8; why = Short })
+  pub start_cut : reading_of 200 Up (0x04 ∷ 0x01 ∷ 0x03 ∷ 0x02 ∷ [])
+      ≡ Err (record { at = 4; why = Short })
+  -- each port has its own commands, and PackageVersionReq is one of all four
+  pub of_202_alone : reading_of 203 Down (0x06 ∷ [])
+      ≡ Err (record { at = 0; why = UnknownCommand })
+  pub none_of_202 : reading_of 202 Down (0x04 ∷ [])
+      ≡ Err (record { at = 0; why = UnknownCommand })
+  pub none_of_200 : reading_of 200 Down (0x06 ∷ 0x00 ∷ [])
+      ≡ Err (record { at = 0; why = UnknownCommand })
+  pub version_200 : reading_of 200 Down (0x00 ∷ []) ≡ Ok (Cast c.PackageVersionReq ∷ [])
+  pub version_201 : reading_of 201 Down (0x00 ∷ []) ≡ Ok (Cast c.PackageVersionReq ∷ [])
+  pub version_202 : reading_of 202 Down (0x00 ∷ []) ≡ Ok (Sync s.PackageVersionReq ∷ [])
+  pub version_203 : reading_of 203 Down (0x00 ∷ []) ≡ Ok (Sync s.PackageVersionReq ∷ [])
+  pub version_ans_200 : reading_of 200 Up (0x00 ∷ 0x02 ∷ 0x01 ∷ []) ≡ Ok (Cast (c.PackageVersionAns 2 1) ∷ [])
+  pub version_ans_203 : reading_of 203 Up (0x00 ∷ 0x04 ∷ 0x01 ∷ []) ≡ Ok (Sync (s.PackageVersionAns 4 1) ∷ [])
   -- a status of 3 wants the next version after it
   pub no_version : reading_of 203 Up (0x04 ∷ 0x03 ∷ 0x02 ∷ 0x00 ∷ 0x00 ∷ [])
       ≡ Err (record { at = 5; why = Short })
@@ -125,4 +147,6 @@ pub record WorkedMessages : Type 0 where
   pub highest_port : reading_of 204 Down (0x00 ∷ []) ≡ Err (record { at = 0; why = Port })
   -- at most 242 bytes
   pub too_long : reading_of 202 Down (replicate 243 0) ≡ Err (record { at = 242; why = TooLong })
+  pub other_port_first : reading_of 204 Down (replicate 243 0) ≡ Err (record { at = 0; why = Port })
+  pub too_long_first : reading_of 202 Down (replicate 243 0x7f) ≡ Err (record { at = 242; why = TooLong })
   pub most : counted (reading_of 202 Down (replicate 242 0)) ≡ Ok 242

@@ -18,6 +18,7 @@ pub record SyncTexts : Type 0 where
   pub time_ans : text_of (Sync (s.AppTimeAns (pos 70) 3)) ≡ codes "AppTimeAns correction=70 token=3"
   pub time_ans_back : text_of (Sync (s.AppTimeAns (negsuc 69) 3))
       ≡ codes "AppTimeAns correction=-70 token=3"
+  pub time_ans_zero : text_of (Sync (s.AppTimeAns (pos 0) 0)) ≡ codes "AppTimeAns correction=0 token=0"
   pub period_req : text_of (Sync (s.DeviceAppTimePeriodicityReq 12))
       ≡ codes "DeviceAppTimePeriodicityReq period=12"
   pub period_ans : text_of (Sync (s.DeviceAppTimePeriodicityAns true 500))
@@ -38,6 +39,8 @@ pub record SyncTexts : Type 0 where
       ≡ codes "DevUpgradeImageAns status=3 next=4"
   pub image_ans_of_none : text_of (Sync (s.DevUpgradeImageAns 2 None))
       ≡ codes "DevUpgradeImageAns status=2 next=-"
+  pub image_ans_of_0 : text_of (Sync (s.DevUpgradeImageAns 3 (Some 0)))
+      ≡ codes "DevUpgradeImageAns status=3 next=0"
   pub delete_image_req : text_of (Sync (s.DevDeleteImageReq 8))
       ≡ codes "DevDeleteImageReq version=8"
   pub delete_image_ans : text_of (Sync (s.DevDeleteImageAns 3)) ≡ codes "DevDeleteImageAns bits=3"
@@ -67,6 +70,8 @@ pub record FragmentTexts : Type 0 where
       ≡ codes "FragSessionSetupAns index=3 bits=2"
   pub encoding_unsupported : text_of (Cast (c.FragSessionSetupAns 3 false false false true))
       ≡ codes "FragSessionSetupAns index=3 bits=1"
+  pub all_refused : text_of (Cast (c.FragSessionSetupAns 3 true true true true))
+      ≡ codes "FragSessionSetupAns index=3 bits=15"
   pub delete_req : text_of (Cast (c.FragSessionDeleteReq 2)) ≡ codes "FragSessionDeleteReq index=2"
   pub delete_ans : text_of (Cast (c.FragSessionDeleteAns 2 true))
       ≡ codes "FragSessionDeleteAns index=2 missing=1"
@@ -74,6 +79,7 @@ pub record FragmentTexts : Type 0 where
       ≡ codes "FragSessionDeleteAns index=2 missing=0"
   pub fragment : text_of (Cast (c.DataFragment 1 700 (0 ∷ 10 ∷ 255 ∷ [])))
       ≡ codes "DataFragment index=1 n=700 bytes=000aff"
+  pub no_bytes : text_of (Cast (c.DataFragment 0 1 [])) ≡ codes "DataFragment index=0 n=1 bytes="
 
 -- a wrapped key, and groups with their addresses
 abbrev pub key : List ℕ
@@ -93,6 +99,8 @@ pub record GroupTexts : Type 0 where
   pub status_req : text_of (Cast (c.McGroupStatusReq 15)) ≡ codes "McGroupStatusReq mask=15"
   pub status_ans : text_of (Cast (c.McGroupStatusAns 4 9 (at_0 ∷ at_3 ∷ [])))
       ≡ codes "McGroupStatusAns total=4 mask=9 groups=0:11223344,3:0000000a"
+  pub three_groups : text_of (Cast (c.McGroupStatusAns 4 11 (at_0 ∷ at_1 ∷ at_3 ∷ [])))
+      ≡ codes "McGroupStatusAns total=4 mask=11 groups=0:11223344,1:deadbeef,3:0000000a"
   pub one_group : text_of (Cast (c.McGroupStatusAns 1 2 (at_1 ∷ [])))
       ≡ codes "McGroupStatusAns total=1 mask=2 groups=1:deadbeef"
   pub no_group : text_of (Cast (c.McGroupStatusAns 7 0 []))
@@ -116,6 +124,10 @@ pub record GroupTexts : Type 0 where
       ≡ codes "McClassCSessionAns id=2 bits=8 start=-"
   pub c_dr : text_of (Cast (c.McClassCSessionAns 2 false false true None))
       ≡ codes "McClassCSessionAns id=2 bits=4 start=-"
+  pub c_all : text_of (Cast (c.McClassCSessionAns 2 true true true None))
+      ≡ codes "McClassCSessionAns id=2 bits=28 start=-"
+  pub c_now : text_of (Cast (c.McClassCSessionAns 1 false false false (Some 0)))
+      ≡ codes "McClassCSessionAns id=1 bits=0 start=0"
   pub b_req : text_of (Cast (c.McClassBSessionReq 1 1000 3 4 8695250 5))
       ≡ codes "McClassBSessionReq id=1 time=1000 periodicity=3 timeout=4 freq=8695250 dr=5"
   pub b_ans : text_of (Cast (c.McClassBSessionAns 1 false false false (Some 77)))
@@ -126,3 +138,7 @@ pub record GroupTexts : Type 0 where
       ≡ codes "McClassBSessionAns id=2 bits=8 start=-"
   pub b_dr : text_of (Cast (c.McClassBSessionAns 2 false false true None))
       ≡ codes "McClassBSessionAns id=2 bits=4 start=-"
+  pub b_all : text_of (Cast (c.McClassBSessionAns 2 true true true None))
+      ≡ codes "McClassBSessionAns id=2 bits=28 start=-"
+  pub b_now : text_of (Cast (c.McClassBSessionAns 1 false false false (Some 0)))
+      ≡ codes "McClassBSessionAns id=1 bits=0 start=0"
