@@ -28,8 +28,17 @@ unfolding is_utf8 chars items members value lex punctuate code_unit short_escape
 refusals = record {
   array = refl;
   nothing = refl;
+  blank = refl;
   bad_text = refl;
   without_port = refl;
+  without_direction = refl;
+  without_hex = refl;
+  port_in_words = refl;
+  number_of_direction = refl;
+  number_of_hex = refl;
+  no_direction = refl;
+  longer_direction = refl;
+  direction_before_range = refl;
   other_direction = refl;
   capital_up = refl;
   capital_down = refl;

@@ -37,8 +37,17 @@ pub record WorkedEntries : Type 0 where
 pub record WorkedRefusals : Type 0 where
   pub array : entry_of (codes "[]") ≡ Err fault.Syntax
   pub nothing : entry_of [] ≡ Err fault.Syntax
+  pub blank : entry_of (replicate 600 32) ≡ Err fault.Syntax
   pub bad_text : entry_of (line_with (codes "1") (codes "\"up\",\"x\":\"" ++ 0xff ∷ codes "\"") (codes "\"\"")) ≡ Err fault.Syntax
   pub without_port : entry_of (codes "{\"dir\":\"up\",\"hex\":\"5a\"}") ≡ Err fault.Syntax
+  pub without_direction : entry_of (codes "{\"port\":1,\"hex\":\"5a\"}") ≡ Err fault.Syntax
+  pub without_hex : entry_of (codes "{\"port\":1,\"dir\":\"up\"}") ≡ Err fault.Syntax
+  pub port_in_words : entry_of (line_of_port (codes "\"1\"")) ≡ Err fault.Syntax
+  pub number_of_direction : entry_of (line_with (codes "1") (codes "1") (codes "\"5a\"")) ≡ Err fault.Syntax
+  pub number_of_hex : entry_of (line_of_hex (codes "5")) ≡ Err fault.Syntax
+  pub no_direction : entry_of (line_with (codes "1") (codes "\"\"") (codes "\"5a\"")) ≡ Err fault.Syntax
+  pub longer_direction : entry_of (line_with (codes "1") (codes "\"upward\"") (codes "\"5a\"")) ≡ Err fault.Syntax
+  pub direction_before_range : entry_of (line_with (codes "256") (codes "\"Up\"") (codes "\"5a\"")) ≡ Err fault.Syntax
   pub other_direction : entry_of (line_with (codes "1") (codes "\"Up\"") (codes "\"5a\"")) ≡ Err fault.Syntax
   pub capital_up : entry_of (line_with (codes "1") (codes "\"UP\"") (codes "\"5a\"")) ≡ Err fault.Syntax
   pub capital_down : entry_of (line_with (codes "1") (codes "\"DOWN\"") (codes "\"5a\"")) ≡ Err fault.Syntax
