@@ -1,5 +1,5 @@
 -- Steps of a server that are worked out: what it asks and sends, in bytes, and where answers lead.
-use Rattle.std.specs.Prelude.{◌≡◌, ℕ, ◌-◌, ◌^◌, true, List, [], ◌∷◌, replicate, Option, Some, None, Result, Ok, Err, is_ok}
+use Rattle.std.specs.Prelude.{◌≡◌, ℕ, ◌-◌, ◌^◌, true, false, List, [], ◌∷◌, take, replicate, Option, Some, None, Result, Ok, Err, is_ok}
 use Rattle.wire_base.specs.declared.refusal.Refusal.{Refusal}
 use Rattle.wire_base.specs.declared.refusal.Why.TheVariants as why
 use Rattle.package_grammar.specs.declared.command.Command.TheVariants.{Cast}
@@ -23,7 +23,7 @@ use Rattle.campaign_server.specs.Plan.{Plan, bad_field}
 use Rattle.campaign_server.specs.Server.{ServerState, first_server, ledger}
 use Rattle.campaign_server.specs.Asking.{group_request, request_of}
 use Rattle.campaign_server.specs.Fragments.{next_fragment, after_fragment, status_to_all, after_status_to_all}
-use Rattle.campaign_server.specs.Framing.{session_keys}
+use Rattle.campaign_server.specs.Framing.{has_frame, frame_for, session_keys}
 use Rattle.campaign_server.specs.Wrapping.{wrapped_key}
 use Rattle.campaign_server.specs.Sent.{down_of, result_of, answer_of}
 use Rattle.campaign_server.specs.Uplinks.{uplink_step}
@@ -125,6 +125,8 @@ pub record AnswerSteps : Type 0 where
   pub hardware : leads alone (At Version) 203 (versions 0 1) ≡ Some (At Fragments)
   pub to_group : leads grouped (At Version) 203 (versions 0 1) ≡ Some (At Group)
   pub other_hardware : leads alone (At Version) 203 (versions 0 2) ≡ Some (Refused Version 1)
+  pub other_hardware_grouped : leads grouped (At Version) 203 (versions 0 2) ≡ Some (Refused Version 1)
+  pub same_firmware : leads alone (At Version) 203 (versions 2 1) ≡ Some (At Fragments)
   pub lowest : leads_in_range 1 ≡ Some (At Fragments)
   pub highest : leads_in_range 3 ≡ Some (At Fragments)
   pub below : leads_in_range 0 ≡ Some (Refused Version 1)
@@ -168,11 +170,26 @@ pub record AnswerSteps : Type 0 where
   pub reboot : leads alone (At Reboot) 203 (0x03 ∷ 0x07 ∷ 0x00 ∷ 0x00 ∷ []) ≡ Some (At Check)
   pub updated : leads alone (At Check) 203 (versions 2 1) ≡ Some Updated
   pub old_firmware : leads alone (At Check) 203 (versions 0 1) ≡ Some (At Check)
+  pub updated_elsewhere : leads alone (At Check) 203 (versions 2 9) ≡ Some Updated
   -- answers for another index, or another group, move nothing
   pub own_index : leads elsewhere (At Fragments) 201 (0x02 ∷ 0x80 ∷ []) ≡ Some (At Window)
   pub index_0 : leads elsewhere (At Fragments) 201 (0x02 ∷ 0x00 ∷ []) ≡ Some (At Fragments)
   pub own_id : leads elsewhere (At Group) 200 (0x02 ∷ 0x03 ∷ []) ≡ Some (At Fragments)
   pub id_0 : leads elsewhere (At Group) 200 (0x02 ∷ 0x00 ∷ []) ≡ Some (At Group)
+  pub id_error : leads elsewhere (At Group) 200 (0x02 ∷ 0x07 ∷ []) ≡ Some (Refused Group 4)
+  pub id_0_error : leads elsewhere (At Group) 200 (0x02 ∷ 0x04 ∷ []) ≡ Some (At Group)
+  pub index_error : leads elsewhere (At Fragments) 201 (0x02 ∷ 0x82 ∷ []) ≡ Some (Refused Fragments 2)
+  pub window_elsewhere : leads elsewhere (At Window) 200 (0x04 ∷ 0x03 ∷ 0x0a ∷ 0x00 ∷ 0x00 ∷ []) ≡ Some (At Status)
+  pub window_of_0 : leads elsewhere (At Window) 200 (0x04 ∷ 0x00 ∷ 0x0a ∷ 0x00 ∷ 0x00 ∷ []) ≡ Some (At Window)
+  pub status_elsewhere : leads elsewhere (At Status) 201 (0x01 ∷ 0x04 ∷ 0x80 ∷ 0x00 ∷ 0x00 ∷ []) ≡ Some (At Image)
+  pub status_of_0 : leads elsewhere (At Status) 201 (0x01 ∷ 0x04 ∷ 0x00 ∷ 0x00 ∷ 0x00 ∷ []) ≡ Some (At Status)
+  -- an answer moves its own stage alone, and a device that was refused or is updated stays so
+  pub early_setup : leads alone (At Version) 201 (0x02 ∷ 0x01 ∷ []) ≡ Some (At Version)
+  pub early_status : leads alone (At Fragments) 201 (0x01 ∷ 0x04 ∷ 0x00 ∷ 0x00 ∷ 0x01 ∷ []) ≡ Some (At Fragments)
+  pub early_image : leads alone (At Status) 203 (0x04 ∷ 0x01 ∷ []) ≡ Some (At Status)
+  pub early_reboot : leads alone (At Image) 203 (0x03 ∷ 0x00 ∷ 0x00 ∷ 0x00 ∷ []) ≡ Some (At Image)
+  pub stays_refused : leads alone (Refused Version 1) 203 (versions 0 1) ≡ Some (Refused Version 1)
+  pub stays_updated : leads alone Updated 203 (versions 0 1) ≡ Some Updated
   -- a repeated answer moves nothing, several in one uplink act in order, and a refused payload changes nothing
   pub repeated : leads alone (At Fragments) 203 (versions 0 1) ≡ Some (At Fragments)
   pub in_order : leads alone (At Reboot) 203 (0x03 ∷ 0x00 ∷ 0x00 ∷ 0x00 ∷ versions 2 1) ≡ Some Updated
@@ -196,6 +213,10 @@ pub record TimeSteps : Type 0 where
       ≡ Ok (by_unicast 202 (0x01 ∷ 0x01 ∷ 0x00 ∷ 0x00 ∷ 0x00 ∷ 0x04 ∷ []))
 
 -- ---- what goes to all
+
+-- a payload of a byte to a group, with the count 258
+abbrev pub to_group : (addr port : ℕ) → Downlink
+to_group addr port = record { to = to.Group addr 258; port = port; payload = 7 ∷ [] }
 
 pub record SendSteps : Type 0 where
   -- the first fragment is the first 13 bytes of the image
@@ -224,6 +245,18 @@ pub record SendSteps : Type 0 where
   pub uncounted : after_status_to_all (first_server image alone) ≡ first_server image alone
   pub counted : after_status_to_all (first_server image grouped) ≡ record (first_server image grouped) { count = 6 }
   pub no_status : status_to_all (record (first_server image grouped) { count = 7 }) ≡ None
+  pub status_indexed : down_of (status_to_all (first_server image elsewhere))
+      ≡ Some (record { to = to.Group 0x11223344 5; port = 201; payload = 0x01 ∷ 0x04 ∷ [] })
+  -- what has a frame: a payload to the plan's group, on a port that is not 0
+  pub framed : has_frame (Some worked_group) (to_group 0x11223344 1) ≡ true
+  pub other_group : has_frame (Some worked_group) (to_group 0x11223345 201) ≡ false
+  pub of_no_port : has_frame (Some worked_group) (to_group 0x11223344 0) ≡ false
+  pub of_no_group : has_frame None (to_group 0x11223344 201) ≡ false
+  pub to_one : has_frame (Some worked_group) (record { to = to.Unicast; port = 201; payload = [] }) ≡ false
+  -- its head: MHDR, the address, FCtrl 00, the low bytes of the count, and the port
+  pub headed : take 9 (frame_for (Some worked_group) (to_group 0x11223344 201))
+      ≡ 0x60 ∷ 0x44 ∷ 0x33 ∷ 0x22 ∷ 0x11 ∷ 0x00 ∷ 0x02 ∷ 0x01 ∷ 0xc9 ∷ []
+  pub unframed : frame_for (Some worked_group) (record { to = to.Unicast; port = 201; payload = 7 ∷ [] }) ≡ []
   -- frames to the group are encrypted under McAppSKey, and signed under McNetSKey
   pub keyed : session_keys (record worked_group { key = worked_key }) ≡ record {
     app_s = 0x10 ∷ 0x76 ∷ 0xbb ∷ 0xc2 ∷ 0xea ∷ 0x64 ∷ 0xf6 ∷ 0xe7 ∷ 0x58 ∷ 0x05 ∷ 0x68 ∷ 0x87 ∷ 0x98 ∷ 0x92 ∷ 0x8a ∷ 0xba ∷ [];
