@@ -51,6 +51,8 @@ uplinks = record {
   nine = refl;
   nothing_acted = refl;
   held = refl;
+  no_room_to_wake = refl;
+  room_to_wake = refl;
   time_answer = refl;
   fragment = refl;
   unknown = refl;
@@ -133,11 +135,16 @@ groups = record {
   deleted = refl;
   anew = refl;
   id_error = refl;
+  next_id = refl;
   start = refl;
+  to_start = refl;
   errors = refl;
   undefined = refl;
   freq_error = refl;
   dr_error = refl;
+  undefined_b = refl;
+  no_frequency = refl;
+  dr_error_b = refl;
   requested = refl;
   requested_b = refl;
   replaced = refl;
@@ -182,7 +189,7 @@ hearing = record {
 }
 
 pub firmware : FirmwareSteps
-unfolding after_migration after_raise image_state is_image is_unknown format_of further int_wrap delivery heard_delivery read_delivery message_delivery after_due_reboot after_swap after_delete hears is_after_uplink is_running reading_of read_from command_at named_at is_known stop_at sync.is_known sync.samples cast.is_known cast.samples number_at clock_down firmware_down group_down fragment_down after_commands step command_step after_answers answer_step periodicity_step resync_step waking time_asking groups_step group_setup_step group_delete_step class_session_step version_step upgrade_step delete_image_step reboot_time_step countdown_step setup_step delete_step status_step fragment_step heard_step setup_bits wrong_coding too_large other_descriptor has_room words_for new_session after_setup renewed same_setup excludes cause_of drop_cause followed after_fragment shape_of shown_verdict seen_of status_by status_in status_of verdict missing
+unfolding after_migration after_raise image_state is_image is_unknown format_of further int_wrap delivery heard_delivery read_delivery message_delivery after_due_reboot after_swap after_delete hears is_after_uplink is_running reading_of read_from command_at named_at is_known stop_at sync.is_known sync.samples cast.is_known cast.samples number_at clock_down firmware_down group_down fragment_down after_commands step command_step after_answers answer_step periodicity_step resync_step waking time_asking groups_step group_setup_step group_delete_step class_session_step version_step upgrade_step delete_image_step reboot_time_step countdown_step setup_step delete_step status_step fragment_step heard_step setup_bits wrong_coding too_large other_descriptor has_room words_for new_session after_setup renewed same_setup excludes cause_of drop_cause followed after_fragment shape_of shown_verdict seen_of status_by status_in status_of verdict missing radio brought fault_without_group
 firmware = record {
   version = refl;
   no_next = refl;
@@ -211,6 +218,9 @@ firmware = record {
   cleared = refl;
   cleared_of_none = refl;
   early = refl;
+  due_unheard = refl;
+  due_refused = refl;
+  due_by_bytes = refl;
   behind = refl;
   too_far = refl;
   ahead = refl;
@@ -235,6 +245,8 @@ alone = record {
   header = refl;
   address = refl;
   no_group = refl;
+  opened = refl;
+  closed = refl;
   counted = refl;
 }
 
@@ -251,6 +263,8 @@ configs = record {
   no_area = refl;
   least = refl;
   area = refl;
+  last_moment = refl;
+  unheld = refl;
   memory = refl;
   flash = refl;
   short_flash = refl;

@@ -1,5 +1,5 @@
 -- Steps of a device that are worked out: what comes to it, in bytes, and what it then sends and holds.
-use Rattle.std.specs.Prelude.{◌≡◌, ℕ, ◌-◌, ◌^◌, true, false, List, [], ◌∷◌, ◌++◌, length, map, drop, Option, Some, None, Err, replicate}
+use Rattle.std.specs.Prelude.{◌≡◌, ℕ, ◌-◌, ◌^◌, true, false, List, [], ◌∷◌, ◌++◌, length, map, drop, Option, Some, None, Ok, Err, replicate}
 use Rattle.wire_base.specs.declared.refusal.Why.TheVariants as why
 use Rattle.package_grammar.specs.declared.downlink.To.TheVariants.{Unicast, Group}
 use Rattle.mc_keys.specs.declared.root_kind.RootKind.TheVariants.{V10, V11}
@@ -13,7 +13,7 @@ use Rattle.device_core.specs.SessionTable.{SessionTable, no_sessions}
 use Rattle.image_slots.specs.declared.view.ImageState.{ImageState}
 use Rattle.image_slots.specs.declared.view.ImageState.TheVariants as image
 use Rattle.mc_frames.specs.declared.fault.FrameFault.TheVariants.{Short, Long, Header, Address}
-use Rattle.device_core.specs.Radio.{session_keys, heard_group, brought_to, radio}
+use Rattle.device_core.specs.Radio.{session_keys, heard_group, payload_to, brought_to, radio}
 use Rattle.device_core.specs.Power.{after_power}
 use Rattle.device_core.specs.declared.arrival.Arrival.{Arrival}
 use Rattle.device_core.specs.declared.class_session.ClassSession.{ClassSession}
@@ -26,7 +26,7 @@ use Rattle.device_core.specs.declared.delivered.Delivered.{Delivered}
 use Rattle.device_core.specs.declared.delivered.Delivered.TheVariants.{Deaf, Refused, OutboxFull, Done}
 use Rattle.device_core.specs.declared.delivered.Aired.{Aired}
 use Rattle.device_core.specs.declared.delivered.Aired.TheVariants.{Foreign}
-use Rattle.device_core.specs.Device.{DeviceState, first_device, is_config, counter_after, after_deaf, with_counts}
+use Rattle.device_core.specs.Device.{DeviceState, first_device, max_moment, is_config, counter_after, after_deaf, with_counts}
 use Rattle.device_core.specs.HeldDevice.{can_reserve}
 use Rattle.device_core.specs.declared.uplink.Answer.{Answer}
 use Rattle.sync_wire.specs.declared.cmd.Cmd.TheVariants.{PackageVersionAns}
@@ -119,6 +119,9 @@ pub record UplinkSteps : Type 0 where
   pub nothing_acted : payloads (after 0 202 (0x03 ∷ 0x07 ∷ 0x00 ∷ 0x00 ∷ []) fresh) ≡ []
   -- those that are held count, and what makes no answer acts still
   pub held : answer 0 202 (0x00 ∷ []) eight_held ≡ OutboxFull 9
+  -- a device that wakes asks for the time where there is room
+  pub no_room_to_wake : (waking 7 eight_held).device ≡ eight_held
+  pub room_to_wake : length (waking 7 (taking eight_held).device).device.outbox ≡ 8
   pub time_answer : answer 0 202 (0x01 ∷ 0x00 ∷ 0x00 ∷ 0x00 ∷ 0x00 ∷ 0x00 ∷ []) eight_held ≡ Done
   pub fragment : answer 0 201 (0x08 ∷ 0x01 ∷ 0x00 ∷ 0x07 ∷ []) eight_held ≡ Done
   -- what is read before the first command that is unknown does not act
@@ -278,6 +281,10 @@ class_b_request = 0x05 ∷ 0x02 ∷ 0xf2 ∷ 0x03 ∷ 0x00 ∷ 0x00 ∷ 0x31 ∷
 abbrev pub request_with : (id f g h dr : ℕ) → List ℕ
 request_with id f g h dr = 0x04 ∷ id ∷ 0xf2 ∷ 0x03 ∷ 0x00 ∷ 0x00 ∷ 0x00 ∷ f ∷ g ∷ h ∷ dr ∷ []
 
+-- one of class B
+abbrev pub request_b_with : (id f g h dr : ℕ) → List ℕ
+request_b_with id f g h dr = 0x05 ∷ id ∷ 0xf2 ∷ 0x03 ∷ 0x00 ∷ 0x00 ∷ 0x00 ∷ f ∷ g ∷ h ∷ dr ∷ []
+
 -- each request of the four packages makes one uplink: eight have room
 pub record WeightSteps : Type 0 where
   pub firmware : answer 0 203
@@ -306,13 +313,20 @@ pub record GroupSteps : Type 0 where
   pub anew : sends 0 200 (group_setup 2 0x0d 0x0c 0x0b 0x0a ++ 0x01 ∷ 0x04 ∷ []) grouped
       ≡ (0x02 ∷ 0x02 ∷ []) ∷ (0x01 ∷ 0x24 ∷ 0x02 ∷ 0x0d ∷ 0x0c ∷ 0x0b ∷ 0x0a ∷ []) ∷ []
   pub id_error : sends 0 200 (group_setup 3 0 0 0 0) (first_device (record (worked_config C 0) { groups = 2 })) ≡ (0x02 ∷ 0x07 ∷ []) ∷ []
+  pub next_id : sends 0 200 (group_setup 2 0 0 0 0) (first_device (record (worked_config C 0) { groups = 2 }))
+      ≡ (0x02 ∷ 0x06 ∷ []) ∷ []
   -- a class session starts in 10 s, or is refused with all its bits
   pub start : sends 1000000 200 session_request grouped ≡ (0x04 ∷ 0x00 ∷ 0x0a ∷ 0x00 ∷ 0x00 ∷ []) ∷ []
+  pub to_start : sends 1000000 200 session_request (record grouped { clock = record { offset = 7; token = 0 } })
+      ≡ (0x04 ∷ 0x00 ∷ 0x03 ∷ 0x00 ∷ 0x00 ∷ []) ∷ []
   pub errors : sends 1000000 200 (0x04 ∷ 0x00 ∷ 0xf2 ∷ 0x03 ∷ 0x00 ∷ 0x00 ∷ 0x00 ∷ 0x00 ∷ 0x00 ∷ 0x00 ∷ 0x06 ∷ []) fresh ≡ (0x04 ∷ 0x1c ∷ []) ∷ []
   -- one bit alone: no such group, the frequency, the data rate
   pub undefined : sends 1000000 200 (request_with 1 0x28 0x76 0x84 5) grouped ≡ (0x04 ∷ 0x11 ∷ []) ∷ []
   pub freq_error : sends 1000000 200 (request_with 2 0x00 0x00 0x00 5) grouped ≡ (0x04 ∷ 0x0a ∷ []) ∷ []
   pub dr_error : sends 1000000 200 (request_with 2 0x28 0x76 0x84 6) grouped ≡ (0x04 ∷ 0x06 ∷ []) ∷ []
+  pub undefined_b : sends 1000000 200 (request_b_with 1 0x28 0x76 0x84 5) grouped ≡ (0x05 ∷ 0x11 ∷ []) ∷ []
+  pub no_frequency : sends 1000000 200 (request_b_with 2 0x00 0x00 0x00 5) grouped ≡ (0x05 ∷ 0x0a ∷ []) ∷ []
+  pub dr_error_b : sends 1000000 200 (request_b_with 2 0x28 0x76 0x84 6) grouped ≡ (0x05 ∷ 0x06 ∷ []) ∷ []
   -- it is held as it was asked for
   pub requested : with_session_2.class_session
       ≡ Some (record { id = 2; kind = ClassC; time = 1010; timeout = 2 })
@@ -445,6 +459,11 @@ pub record FirmwareSteps : Type 0 where
   pub cleared : (waking 15000 (record ready { reboot = Some 15 })).device.reboot ≡ None
   pub cleared_of_none : (waking 15000 (record fresh { reboot = Some 15 })).device.reboot ≡ None
   pub early : (waking 14999 (record ready { reboot = Some 15 })).device.slots.version ≡ 0
+  -- a payload that is not heard, one that is refused, and bytes that are no frame let a reboot that is due be carried out
+  pub due_unheard : (after 15000 203 [] (record (first_device (worked_config A 0)) { slots = ready.slots; reboot = Some 15 })).slots.version
+      ≡ 2
+  pub due_refused : (after 15000 203 (0x7f ∷ []) (record ready { reboot = Some 15 })).slots.version ≡ 2
+  pub due_by_bytes : (radio 15000 0 1 [] (record ready { reboot = Some 15 })).device.slots.version ≡ 2
   -- a moment is reached at itself and less than 2^31 s after it, modulo 2^32
   pub behind : is_reached (2 ^ 31 - 2) (2 ^ 32 - 1) ≡ true
   pub too_far : is_reached (2 ^ 31 - 1) (2 ^ 32 - 1) ≡ false
@@ -507,6 +526,10 @@ pub record RadioSteps : Type 0 where
   pub address : heard_alone other_frame ≡ Foreign Address
   -- so it is where the group of the class session is not there
   pub no_group : brought_to (heard_group fresh.groups (Some first_session)) other_frame ≡ Err Address
+  -- a frame of the group is a payload to it, with its whole count
+  pub opened : payload_to 0x11223344 (Ok (record { count = 65537; port = 201; payload = 7 ∷ 8 ∷ [] }))
+      ≡ Ok (record { to = Group 0x11223344 65537; port = 201; payload = 7 ∷ 8 ∷ [] })
+  pub closed : payload_to 0x11223344 (Err Header) ≡ Err Header
   -- it counts as what was not heard
   pub counted : (radio 0 0 1 other_frame fresh).device ≡ with_counts after_deaf fresh
 
@@ -524,6 +547,8 @@ pub record ConfigSteps : Type 0 where
   pub no_area : is_config (record (worked_config C 0) { area = 0 }) ≡ false
   pub least : is_config (record (worked_config A 0) { formats = 1; rows = 0; sessions = 1; groups = 1; area = 1 }) ≡ true
   pub area : is_config (record (worked_config C 0) { area = 262383 }) ≡ false
+  pub last_moment : max_moment ≡ 4294967295999
+  pub unheld : can_reserve (record (worked_config C 0) { span = 1 }) 0 ≡ true
   -- what is not held needs no flash; what is held needs four ranges, each of 24,640 bytes at least
   pub memory : can_reserve (worked_config C 0) 0 ≡ true
   pub flash : can_reserve (record (worked_config C 0) { held = true; span = 24640 }) 98560 ≡ true
