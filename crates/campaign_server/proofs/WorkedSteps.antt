@@ -9,6 +9,7 @@ use Rattle.image_slots.specs.Image.{is_for, lowest_of, highest_of, further, form
 use Rattle.package_grammar.specs.Reading.{named_at, command_at, is_known, stop_at, read_from, reading_of}
 use Rattle.frag_model.specs.Fragments.{line_of, pieces_at, xor_bytes, xor_all}
 use Rattle.frag_encoder.specs.Encoding.{pieces_of, data_of}
+use Rattle.mc_frames.specs.Frames.{message_of, frame_of}
 use Rattle.campaign_server.specs.Plan.{bad_field}
 use Rattle.campaign_server.specs.Asking.{request_at, request_of}
 use Rattle.campaign_server.specs.Answers.{stage_after, stage_after_all}
@@ -127,7 +128,7 @@ times = record {
 }
 
 pub sending : SendSteps
-unfolding next_fragment after_fragment status_to_all after_status_to_all data_of pieces_of line_of pieces_at xor_bytes xor_all
+unfolding next_fragment after_fragment status_to_all after_status_to_all data_of pieces_of line_of pieces_at xor_bytes xor_all message_of frame_of
 sending = record {
   first = refl;
   eighth = refl;
