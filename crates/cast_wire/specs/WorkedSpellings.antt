@@ -5,6 +5,8 @@ use Rattle.wire_base.specs.declared.refusal.Direction.TheVariants.{Down, Up}
 use Rattle.cast_wire.specs.declared.cmd.Cmd.{Cmd}
 use Rattle.cast_wire.specs.declared.cmd.Cmd.TheVariants.{PackageVersionReq, PackageVersionAns, FragSessionStatusReq, FragSessionStatusAns, FragSessionSetupReq, FragSessionSetupAns, FragSessionDeleteReq, FragSessionDeleteAns, DataFragment, McGroupStatusReq, McGroupStatusAns, McGroupSetupReq, McGroupSetupAns, McGroupDeleteReq, McGroupDeleteAns, McClassCSessionReq, McClassCSessionAns, McClassBSessionReq, McClassBSessionAns}
 use Rattle.cast_wire.specs.declared.group_list.GroupAddress.{GroupAddress}
+use Rattle.cast_wire.specs.Limits.{max_fragment, max_groups}
+use Rattle.cast_wire.specs.SetupRefusal.{refusal_bits, setup_answer}
 use Rattle.cast_wire.specs.Table.{row, canonical}
 
 -- where a command is sent, and the bytes that are written for it
@@ -55,6 +57,8 @@ pub record WorkedSpellings : Type 0 where
       ≡ from_device (201 ∷ []) (0x02 ∷ 0x02 ∷ [])
   pub encoding_unsupported : sent (FragSessionSetupAns 1 false false false true)
       ≡ from_device (201 ∷ []) (0x02 ∷ 0x41 ∷ [])
+  pub all_refused : sent (FragSessionSetupAns 1 true true true true)
+      ≡ from_device (201 ∷ []) (0x02 ∷ 0x4f ∷ [])
   pub delete_req : sent (FragSessionDeleteReq 2) ≡ from_server (201 ∷ []) (0x03 ∷ 0x02 ∷ [])
   pub delete_ans : sent (FragSessionDeleteAns 2 true) ≡ from_device (201 ∷ []) (0x03 ∷ 0x06 ∷ [])
   pub deleted : sent (FragSessionDeleteAns 1 false) ≡ from_device (201 ∷ []) (0x03 ∷ 0x01 ∷ [])
@@ -64,6 +68,8 @@ pub record WorkedSpellings : Type 0 where
   pub group_status_ans : sent (McGroupStatusAns 4 9 (at_0 ∷ at_3 ∷ []))
       ≡ from_device (200 ∷ []) (0x01 ∷ 0x49 ∷ 0x00 ∷ 0x44 ∷ 0x33 ∷ 0x22 ∷ 0x11 ∷ 0x03 ∷ 0x0a ∷ 0x00 ∷ 0x00 ∷ 0x00 ∷ [])
   pub no_group : sent (McGroupStatusAns 7 0 []) ≡ from_device (200 ∷ []) (0x01 ∷ 0x70 ∷ [])
+  pub third_group : sent (McGroupStatusAns 4 4 (record { id = 2; addr = 0x04030201 } ∷ []))
+      ≡ from_device (200 ∷ []) (0x01 ∷ 0x44 ∷ 0x02 ∷ 0x01 ∷ 0x02 ∷ 0x03 ∷ 0x04 ∷ [])
   pub group_setup_req : sent (McGroupSetupReq 2 0x11223344 key 5 0x01020304)
       ≡ from_server (200 ∷ []) (0x02 ∷ 0x02 ∷ 0x44 ∷ 0x33 ∷ 0x22 ∷ 0x11 ∷ 0x00 ∷ 0x01 ∷ 0x02 ∷ 0x03 ∷ 0x04 ∷ 0x05
       ∷ 0x06 ∷ 0x07 ∷ 0x08 ∷ 0x09 ∷ 0x0a ∷ 0x0b ∷ 0x0c ∷ 0x0d ∷ 0x0e ∷ 0xff ∷ 0x05 ∷ 0x00
@@ -83,6 +89,8 @@ pub record WorkedSpellings : Type 0 where
       ≡ from_device (200 ∷ []) (0x04 ∷ 0x0a ∷ [])
   pub c_dr : sent (McClassCSessionAns 3 false false true None)
       ≡ from_device (200 ∷ []) (0x04 ∷ 0x07 ∷ [])
+  pub c_all : sent (McClassCSessionAns 3 true true true None)
+      ≡ from_device (200 ∷ []) (0x04 ∷ 0x1f ∷ [])
   pub b_req : sent (McClassBSessionReq 1 0x11223344 3 4 0x84add2 5)
       ≡ from_server (200 ∷ []) (0x05 ∷ 0x01 ∷ 0x44 ∷ 0x33 ∷ 0x22 ∷ 0x11 ∷ 0x34 ∷ 0xd2 ∷ 0xad ∷ 0x84 ∷ 0x05 ∷ [])
   pub b_ans : sent (McClassBSessionAns 1 false false false (Some 0x010203))
@@ -93,3 +101,17 @@ pub record WorkedSpellings : Type 0 where
       ≡ from_device (200 ∷ []) (0x05 ∷ 0x0a ∷ [])
   pub b_dr : sent (McClassBSessionAns 3 false false true None)
       ≡ from_device (200 ∷ []) (0x05 ∷ 0x07 ∷ [])
+  pub b_all : sent (McClassBSessionAns 3 true true true None)
+      ≡ from_device (200 ∷ []) (0x05 ∷ 0x1f ∷ [])
+  -- the bits of a FragSessionSetupAns as a number, and the answer that has them
+  pub bits_none : refusal_bits false false false false ≡ 0
+  pub bits_of_descriptor : refusal_bits true false false false ≡ 8
+  pub bits_of_index : refusal_bits false true false false ≡ 4
+  pub bits_of_memory : refusal_bits false false true false ≡ 2
+  pub bits_of_encoding : refusal_bits false false false true ≡ 1
+  pub bits_all : refusal_bits true true true true ≡ 15
+  pub answer_10 : setup_answer 2 10 ≡ FragSessionSetupAns 2 true false true false
+  pub answer_5 : setup_answer 3 5 ≡ FragSessionSetupAns 3 false true false true
+  -- limits
+  pub most_bytes : max_fragment ≡ 239
+  pub most_groups : max_groups ≡ 4
