@@ -22,6 +22,8 @@ keys = record {
   of_1_1 = root_1_1;
   kek = refl;
   unwrapped = refl;
+  kek_1_1 = refl;
+  unwrapped_1_1 = refl;
 }
 
 pub session_keys : WorkedSessionKeys

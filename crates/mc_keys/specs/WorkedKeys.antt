@@ -24,6 +24,13 @@ worked_key = 0x00 ∷ 0x11 ∷ 0x22 ∷ 0x33 ∷ 0x44 ∷ 0x55 ∷ 0x66 ∷ 0x77
 abbrev pub worked_wrapped : List ℕ
 worked_wrapped = 0xb0 ∷ 0xe6 ∷ 0x27 ∷ 0x7d ∷ 0x71 ∷ 0x4c ∷ 0x73 ∷ 0x13 ∷ 0xa0 ∷ 0xec ∷ 0x58 ∷ 0xf3 ∷ 0x57 ∷ 0xc8 ∷ 0xf0 ∷ 0xfb ∷ []
 
+-- under the root key of LoRaWAN 1.1 the key that unwraps, and what the same wrapped key is
+abbrev pub worked_kek_1_1 : List ℕ
+worked_kek_1_1 = 0x0f ∷ 0xc4 ∷ 0x3a ∷ 0x2a ∷ 0x45 ∷ 0xfd ∷ 0xb7 ∷ 0x53 ∷ 0xdd ∷ 0x06 ∷ 0x52 ∷ 0x70 ∷ 0xb5 ∷ 0x0a ∷ 0xb9 ∷ 0xf2 ∷ []
+
+abbrev pub worked_key_1_1 : List ℕ
+worked_key_1_1 = 0x38 ∷ 0xf7 ∷ 0xd4 ∷ 0x7d ∷ 0x60 ∷ 0xfc ∷ 0xeb ∷ 0xc7 ∷ 0x7d ∷ 0x52 ∷ 0x5b ∷ 0x5c ∷ 0x33 ∷ 0x8d ∷ 0x27 ∷ 0x2d ∷ []
+
 pub record WorkedKeys : Type 0 where
   pub root : mc_root_key worked_gen_app_key ≡ worked_root
   pub root_1_1 : mc_root_key_1_1 worked_gen_app_key ≡ worked_root_1_1
@@ -31,6 +38,8 @@ pub record WorkedKeys : Type 0 where
   pub of_1_1 : root_of V11 worked_gen_app_key ≡ worked_root_1_1
   pub kek : mc_ke_key worked_root ≡ worked_kek
   pub unwrapped : mc_key worked_kek worked_wrapped ≡ worked_key
+  pub kek_1_1 : mc_ke_key worked_root_1_1 ≡ worked_kek_1_1
+  pub unwrapped_1_1 : mc_key worked_kek_1_1 worked_wrapped ≡ worked_key_1_1
 
 -- with the address 11223344
 pub record WorkedSessionKeys : Type 0 where
