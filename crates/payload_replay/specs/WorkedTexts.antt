@@ -59,11 +59,23 @@ pub record AreTexts : Type 0 where
   pub no_digit : payload_of 3 (codes "0g") ≡ Err why.Syntax
   pub last_line : payload_of 19999 (codes "08") ≡ Ok (0x08 ∷ [])
   pub many_lines : payload_of 20000 (codes "0g") ≡ Err why.Limit
+  -- a payload of 242 bytes is read, and a longer one is beyond the limits; of a line beyond them no digit is looked at
+  pub longest : payload_of 3 (replicate 484 48) ≡ Ok (replicate 242 0)
+  pub longer : payload_of 3 (replicate 486 48) ≡ Err why.Limit
+  pub longest_line : payload_of 3 (replicate 600 103) ≡ Err why.Syntax
+  pub long_line : payload_of 3 (replicate 601 103) ≡ Err why.Limit
   -- the rows that a header gives
   pub rows : header_rows (codes "replay 1 256") ≡ Ok 256
   pub many_rows : header_rows (codes "replay 1 257") ≡ Err why.Range
   pub other_header : header_rows (codes "replay 2 0") ≡ Err why.Syntax
   pub no_decimal : header_rows (codes "replay 1 01") ≡ Err why.Syntax
+  pub short_header : header_rows (codes "replay 1") ≡ Err why.Syntax
+  pub longer_header : header_rows (codes "replay 1 2 3") ≡ Err why.Syntax
+  pub no_header : header_rows [] ≡ Err why.Syntax
+  pub no_rows : header_rows (codes "replay 1 0") ≡ Ok 0
+  pub longest_header : header_rows (replicate 600 114) ≡ Err why.Syntax
+  pub long_header : header_rows (replicate 601 114) ≡ Err why.Limit
+  pub header_of_capture : header_rows (codes "capture 1 2") ≡ Err why.Syntax
   -- the device that hears the payloads
   pub hearer : (replay_device 7).config ≡ record {
     class = class.C;
@@ -108,6 +120,7 @@ pub record AreCaptures : Type 0 where
   pub long_payload : line_entry 1 (line_of_hex (codes "\"" ++ replicate 486 48 ++ codes "\"")) ≡ Err why.Limit
   pub many_lines : line_entry 20000 (codes "[]") ≡ Err why.Limit
   pub long_line : line_entry 1 (replicate 601 32) ≡ Err why.Limit
+  pub longest_line : line_entry 1 (replicate 600 32) ≡ Err why.Syntax
   -- what is written of an entry
   pub shown : entry_text 12 worked_entry ≡ codes "line 12 202 down\nAppTimeAns correction=5 token=3\n"
   pub foreign : entry_text 2 (empty_entry 7 Up) ≡ codes "line 2 7 up\nrefused 0 port\n"
