@@ -3,11 +3,11 @@ use Rattle.std.proofs.Common.{refl, inl, inr, arith}
 use lib.Count.{ones}
 use Rattle.frag_model.specs.Parity.{states_after, parity_states, modulus, residues, columns_drawn, line_with, line}
 use Rattle.frag_model.specs.Fragments.{line_of, pieces_at, xor_bytes, xor_all}
-use Rattle.frag_encoder.specs.Encoding.{pieces_of, data_of}
+use Rattle.frag_encoder.specs.Encoding.{pieces_of, data_of, sums_of}
 use Rattle.frag_encoder.specs.WorkedFiles.{WorkedFiles, WorkedSizes}
 
 pub files : WorkedFiles
-unfolding states_after parity_states modulus residues columns_drawn line_with line line_of pieces_at xor_bytes xor_all pieces_of data_of ones
+unfolding states_after parity_states modulus residues columns_drawn line_with line line_of pieces_at xor_bytes xor_all pieces_of data_of sums_of ones
 files = record {
   whole = refl;
   no_padding = refl;
@@ -20,6 +20,10 @@ files = record {
   last = refl;
   coded = refl;
   coded_with_padding = refl;
+  coded_of_two = refl;
+  coded_of_others = refl;
+  no_sum = refl;
+  sum_of_two = refl;
 }
 
 pub sizes : WorkedSizes

@@ -1,6 +1,6 @@
 -- Files cut into pieces, and their fragments, worked out. (TS004-1.0.0: the last fragment is filled up with zeros.)
 use Rattle.std.specs.Prelude.{◌≡◌, ℕ, List, [], ◌∷◌}
-use Rattle.frag_encoder.specs.Encoding.{IsBadSize, nb_frag_of, padding_of, filled, block_of, data_of}
+use Rattle.frag_encoder.specs.Encoding.{IsBadSize, nb_frag_of, padding_of, filled, block_of, data_of, sums_of}
 
 -- five bytes
 abbrev pub five : List ℕ
@@ -22,6 +22,12 @@ pub record WorkedFiles : Type 0 where
   -- a coded one is the sum of the pieces of its line: of three pieces the second, of two the second
   pub coded : data_of five 2 4 ≡ 0x33 ∷ 0x44 ∷ []
   pub coded_with_padding : data_of five 3 3 ≡ 0x44 ∷ 0x55 ∷ 0 ∷ []
+  -- and of four pieces the first and the third, or the second and the fourth, byte by byte without a carry
+  pub coded_of_two : data_of (3 ∷ 2 ∷ 6 ∷ 8 ∷ []) 1 5 ≡ 5 ∷ []
+  pub coded_of_others : data_of (3 ∷ 10 ∷ 6 ∷ 9 ∷ []) 1 7 ≡ 3 ∷ []
+  -- a piece is no sum, and such a fragment is one of two
+  pub no_sum : sums_of 4 4 ≡ 0
+  pub sum_of_two : sums_of 4 5 ≡ 2
 
 -- the files and sizes that are not encoded, and those beside them
 pub record WorkedSizes : Type 0 where
