@@ -1,6 +1,6 @@
 //! The two image slots of a device.
 
-ghost use Rattle.std.specs.Prelude.{◌≡◌, ◌≤◌, ℕ, length, IfOk};
+ghost use Rattle.std.specs.Prelude.{◌≡◌, ◌≤◌, ℕ, length, IfOk, vec_capacity};
 ghost use Rattle.image_slots.specs.Slots.{first_slots, without_next, after_offer, after_swap, delete_bits, after_delete, after_raise};
 
 use crate::view::{ImageState, ImageView};
@@ -78,10 +78,7 @@ impl Slots {
             ≡ record self.old { slots = after_offer self.old.hw file.now self.old.slots } }
     {
         self.next = ImageView::read(file, self.hw, self.formats);
-        self.next_file.clear();
-        if self.next_file.extend_from_slice(file).is_err() {
-            unreachable!();
-        }
+        put_file(&mut self.next_file, file);
     }
 
     /// A file of at most `area` bytes is what runs from now on, with this version, and next stays.
@@ -92,10 +89,7 @@ impl Slots {
         } }
     {
         self.version = version;
-        self.running.clear();
-        if self.running.extend_from_slice(file).is_err() {
-            unreachable!();
-        }
+        put_file(&mut self.running, file);
     }
 
     /// A valid next becomes what runs, and next is none; any other next stays.
@@ -175,6 +169,18 @@ impl Slots {
     {
         self.next = ImageState::None;
         self.next_file.clear();
+    }
+}
+
+/// Makes these bytes all that a slot has, in the room that was taken for it.
+fn put_file(slot: &mut Vec<u8>, file: &[u8])
+    requires { length file.now ≤ vec_capacity slot.old }
+    ensures bytes { slot.new.items ≡ file.now }
+    ensures room { vec_capacity slot.old ≤ vec_capacity slot.new }
+{
+    slot.clear();
+    if slot.extend_from_slice(file).is_err() {
+        unreachable!();
     }
 }
 
