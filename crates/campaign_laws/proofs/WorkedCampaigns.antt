@@ -40,7 +40,7 @@ use Rattle.device_core.specs.Fragments.{setup_step, fragment_step, heard_step}
 use Rattle.device_core.specs.Radio.{brought, radio}
 use Rattle.mc_frames.specs.Opening.{fault_without_group}
 use Rattle.campaign_world.specs.Summary.{with_device as with_counted, totals_from}
-use Rattle.campaign_laws.specs.WorkedCampaigns.{AreReported, AreRefused, AreCauses, AreSessions, AreCounted}
+use Rattle.campaign_laws.specs.WorkedCampaigns.{AreReported, AreRefused, AreCauses, AreSessions, AreCounted, ArePlanned}
 
 pub refused_so : AreRefused
 unfolding campaign_of read_lines read_line cause_of form_cause in_range after_form with_device lines_of words_of word decimal_of key_of hex_number_of hex_bytes_of decode_pairs form_of next_fragment after_fragment status_to_all after_status_to_all request_of request_at radio brought fault_without_group after_due_reboot
@@ -60,6 +60,8 @@ refused_so = record {
   device_of_no_payload = refl;
   payload = refl;
   to_another = refl;
+  device_0 = refl;
+  other_flash = refl;
   no_window = refl;
   uplink = refl;
   time = refl;
@@ -91,6 +93,8 @@ pub reported_so : AreReported
 unfolding digits int_wrap campaign_of read_lines read_line cause_of form_cause in_range after_form with_device report_of device_parts view_of lines_of words_of word decimal_of key_of hex_number_of hex_bytes_of decode_pairs form_of next_fragment after_fragment status_to_all after_status_to_all request_of request_at is_for lowest_of highest_of further format_of firmware_of number_at uplink_step read_uplink reading_of read_from command_at named_at stop_at is_known sync.is_known sync.samples cast.is_known cast.samples clock_up clock_down firmware_up firmware_down fragment_up fragment_down group_up group_down stage_after_all stage_after time_answer delivery heard_delivery read_delivery message_delivery after_due_reboot after_migration after_raise after_swap hears is_after_uplink after_commands step command_step after_answers answer_step version_step waking time_asking radio brought fault_without_group
 reported_so = record {
   clock = refl;
+  late = refl;
+  own_answer = refl;
   version = refl;
   numbers = refl;
   power = refl;
@@ -113,6 +117,17 @@ causes_so = record {
   long_line = refl;
   last_line = refl;
   many_lines = refl;
+  most_fragments = refl;
+  more_fragments = refl;
+  more_of_two = refl;
+  group_twice = refl;
+  device_for_window = refl;
+  window_first = refl;
+  group_behind = refl;
+  event_first = refl;
+  device_behind = refl;
+  end_of_devices = refl;
+  nothing_behind = refl;
 }
 
 pub sessions_so : AreSessions
@@ -129,6 +144,13 @@ counted_so = record {
   no_rows = refl;
   conflict = refl;
   no_session = refl;
+  recovers = refl;
+  recovers_none = refl;
+  recovers_receiving = refl;
+  recovers_no_rows = refl;
+  recovers_conflict = refl;
+  recovers_of_0 = refl;
+  recovers_of_nobody = refl;
   heard_more = refl;
   complete_more = refl;
   one_more = refl;
@@ -136,4 +158,19 @@ counted_so = record {
   updated_more = refl;
   refused_no_more = refl;
   all = refl;
+}
+
+pub planned_so : ArePlanned
+unfolding after_form
+planned_so = record {
+  image = refl;
+  group = refl;
+  window_c = refl;
+  window_b = refl;
+  image_section = refl;
+  group_section = refl;
+  window_section = refl;
+  device_section = refl;
+  configured = refl;
+  plain = refl;
 }

@@ -5,22 +5,31 @@ use Rattle.frag_session.specs.declared.answers.Verdict.TheVariants as verdict
 use Rattle.frag_session.specs.Session.{Session, Seen, view_of}
 use Rattle.mc_keys.specs.declared.root_kind.RootKind.{RootKind}
 use Rattle.mc_keys.specs.declared.root_kind.RootKind.TheVariants.{V10, V11}
+use Rattle.device_core.specs.declared.config.Class.TheVariants as device_class
 use Rattle.device_core.specs.Device.{DeviceState}
+use Rattle.campaign_server.specs.declared.plan.Kind.TheVariants as kind
+use Rattle.campaign_server.specs.Plan.{Plan}
 use Rattle.campaign_server.specs.declared.stage.Stage.TheVariants.{At, Updated, Refused}
 use Rattle.campaign_server.specs.declared.stage.Request.TheVariants as request
 use Rattle.campaign_server.specs.Server.{ServerState, first_server}
 use Rattle.script_lines.specs.declared.forms.Class.TheVariants as class
+use Rattle.script_lines.specs.declared.forms.Form.{Form}
+use Rattle.script_lines.specs.declared.forms.Form.TheVariants.{Header, Image, Group, WindowC, WindowB, Device, Frag, End}
 use Rattle.image_slots.specs.WorkedImages.{worked_image, ranged_image}
 use Rattle.report_lines.specs.declared.faults.LineFault.{LineFault}
 use Rattle.report_lines.specs.declared.faults.LineWhy.{LineWhy}
 use Rattle.report_lines.specs.declared.faults.LineWhy.TheVariants as why
 use Rattle.campaign_world.specs.World.{WorldState, first_plan, first_world}
 use Rattle.campaign_world.specs.Said.{line_of, said_in}
-use Rattle.campaign_world.specs.Causes.{is_due_by, cause_of}
+use Rattle.campaign_world.specs.Causes.{is_in_order, fits_script, is_due_by, cause_of}
 use Rattle.campaign_world.specs.Script.{campaign_of}
 use Rattle.campaign_world.specs.declared.summary.Totals.{Totals}
 use Rattle.campaign_world.specs.Summary.{heard_by, has_file, one_if, with_device, summary_with}
-use Rattle.campaign_world.specs.Making.{device_of}
+use Rattle.campaign_world.specs.declared.recovery.NoFile.TheVariants as no_file
+use Rattle.campaign_world.specs.declared.section.Section.{Section}
+use Rattle.campaign_world.specs.declared.section.Section.TheVariants as section
+use Rattle.campaign_world.specs.Making.{config_of, device_of, after_form}
+use Rattle.campaign_world.specs.Recovery.{file_of, recovery_by}
 use Rattle.campaign_world.specs.Report.{report_of}
 
 abbrev pub report_or_fault : Result WorldState LineFault → Result (List ℕ) LineFault
@@ -62,6 +71,13 @@ pub record AreReported : Type 0 where
   -- a device that wakes is set right once
   pub clock : told (one_device (codes "at 10000\nwake 1\nup 1\ndown 1 1\ndown 1 1\nend\n")) ≡ reported (codes
       "fuota report 1\nimage 52 fragments 4 size 13 padding 0 parity 0\ndevice 1 version clock 0 token 1 running 0 next none\ncounts deaf 0 refused 0 full 0 dropped 0\nend\n")
+  -- an uplink that comes late is answered by the time at which it comes: at 20 s the device's time of 15 s is 5 s behind
+  pub late : told (one_device (codes "at 10000\nwake 1\nat 20000\nup 1\ndown 1 1\nend\n")) ≡ reported (codes
+      "fuota report 1\nimage 52 fragments 4 size 13 padding 0 parity 0\ndevice 1 version clock 10 token 1 running 0 next none\ncounts deaf 0 refused 0 full 0 dropped 0\nend\n")
+  -- the answer to an uplink is its own device's
+  pub own_answer : told (codes
+      "fuota 1\nimage 13 0\ndevice 1 c 1 0 5 00000000000000000000000000000000\ndevice 2 c 1 0 5 00000000000000000000000000000000\nwake 1\nup 1\ndown 1 2\n")
+      ≡ refused 7 why.Unsent
   -- the answer of the device's version leads on
   pub version : told (one_device (codes "ask 1\ndown 1 1\nup 1\nask 1\nfrag\nend\n")) ≡ reported (codes
       "fuota report 1\nimage 52 fragments 4 size 13 padding 0 parity 0\ndevice 1 fragments clock 5 token 0 running 0 next none\ncounts deaf 0 refused 0 full 0 dropped 0\nend\n")
@@ -124,6 +140,11 @@ pub record AreRefused : Type 0 where
   pub to_another : told (codes
       "fuota 1\nimage 13 0\ndevice 1 c 1 0 0 00000000000000000000000000000000\ndevice 2 c 1 0 0 00000000000000000000000000000000\nask 1\ndown 1 2\n")
       ≡ refused 6 why.Unsent
+  pub device_0 : told (one_device (codes "wake 0\n")) ≡ refused 4 why.Device
+  -- the one device that has a flash is the one that loses its power
+  pub other_flash : told (codes
+      "fuota 1\nimage 13 0\ndevice 1 c 1 0 0 00000000000000000000000000000000\ndevice 2 c 1 0 0 00000000000000000000000000000000 flash\npower 2\npower 1\n")
+      ≡ refused 6 why.Device
   -- a window of the group is to come
   pub no_window : told (codes
       "fuota 1\nimage 13 0\ngroup 11223344 00000000000000000000000000000000 0 10\ndevice 1 c 1 0 0 00000000000000000000000000000000\n")
@@ -177,6 +198,70 @@ pub record AreCauses : Type 0 where
   pub long_line : cause_of (first_world worked_image) (line_of (replicate 601 48)) ≡ Some why.Limit
   pub last_line : cause_of (record (first_world worked_image) { lines = 19999 }) (line_of (codes "fuota 1")) ≡ None
   pub many_lines : cause_of (record (first_world worked_image) { lines = 20000 }) (line_of (codes "fuota 1")) ≡ Some why.Limit
+  -- an image of 4,096 fragments at the most, whose bytes are counted before
+  pub most_fragments : fits_script 4096 0 (Image 1 0 0) ≡ true
+  pub more_fragments : fits_script 4097 0 (Image 1 0 0) ≡ false
+  pub more_of_two : fits_script 8193 0 (Image 2 0 0) ≡ false
+  -- a group waits for its window, and no device or second group comes before it
+  pub group_twice : is_in_order section.Window (Group 0 1 [] 0 1) ≡ false
+  pub device_for_window : is_in_order section.Window (Device 1 class.A 1 0 0 [] None false false false) ≡ false
+  pub window_first : is_in_order section.Group (WindowC 0 0 0 0) ≡ false
+  pub group_behind : is_in_order section.Device (Group 0 1 [] 0 1) ≡ false
+  pub event_first : is_in_order section.Device Frag ≡ false
+  pub device_behind : is_in_order section.Events (Device 1 class.A 1 0 0 [] None false false false) ≡ false
+  pub end_of_devices : is_in_order section.Devices End ≡ true
+  pub nothing_behind : is_in_order section.Ended End ≡ false
+
+-- ---- what the lines of a plan make: each number in its place
+
+-- the plan after a form, and what may come next
+abbrev pub planned_by : Form → Plan
+planned_by form = (after_form (first_world worked_image) form).server.plan
+
+abbrev pub section_behind : Form → Section
+section_behind form = (after_form (first_world worked_image) form).section
+
+pub record ArePlanned : Type 0 where
+  pub image : planned_by (Image 13 4 2) ≡ record first_plan { frag_size = 13; parity = 4; index = 2 }
+  pub group : planned_by (Group 2 7 (8 ∷ []) 5 9) ≡ record first_plan { group = Some (record { id = 2; addr = 7; key = 8 ∷ []; min = 5; max = 9 }) }
+  pub window_c : planned_by (WindowC 1 3 4 5) ≡ record first_plan { window = Some (record { kind = kind.C; start = 1; timeout = 3; freq = 4; dr = 5 }) }
+  pub window_b : planned_by (WindowB 1 2 3 4 5)
+      ≡ record first_plan { window = Some (record { kind = kind.B 2; start = 1; timeout = 3; freq = 4; dr = 5 }) }
+  pub image_section : section_behind Header ≡ section.Image
+  pub group_section : section_behind (Image 13 4 2) ≡ section.Group
+  pub window_section : section_behind (Group 2 7 (8 ∷ []) 5 9) ≡ section.Window
+  pub device_section : section_behind (WindowC 1 3 4 5) ≡ section.Device
+  -- a device of class A with all that a line can say, and one of class C with as little as it can
+  pub configured : config_of class.A 7 3 9 (8 ∷ []) (Some 10) true true true ≡ record {
+    class = device_class.A;
+    hw = 7;
+    formats = 1;
+    rows = 3;
+    offset = 9;
+    key = 8 ∷ [];
+    root = V11;
+    descriptor = Some 10;
+    sessions = 4;
+    groups = 4;
+    area = 262382;
+    held = true;
+    span = 631573;
+  }
+  pub plain : config_of class.C 7 3 9 (8 ∷ []) None false false false ≡ record {
+    class = device_class.C;
+    hw = 7;
+    formats = 2;
+    rows = 3;
+    offset = 9;
+    key = 8 ∷ [];
+    root = V10;
+    descriptor = None;
+    sessions = 4;
+    groups = 4;
+    area = 262382;
+    held = false;
+    span = 0;
+  }
 
 -- ---- two sessions of a stranger's, and what a summary counts
 
@@ -206,6 +291,16 @@ counted_device session =
 abbrev pub shown_with : Verdict → Option Seen
 shown_with v = Some (record { received = 4; missing = 0; verdict = v; file = [] })
 
+-- the same with a file of one byte
+abbrev pub shown_whole : Verdict → Option Seen
+shown_whole v = Some (record { received = 4; missing = 0; verdict = v; file = 7 ∷ [] })
+
+-- a device whose session is of index 1
+abbrev pub second_device : Option Session → DeviceState
+second_device session =
+    let device = device_of class.C 1 0 0 [] None false false false in
+    record device { sessions = record device.sessions { second = session } }
+
 abbrev pub counted_server : ServerState
 counted_server = record (first_server worked_image (record first_plan { frag_size = 13 })) {
   stages = Updated ∷ Refused request.Image 1 ∷ At request.Check ∷ Updated ∷ [];
@@ -223,6 +318,14 @@ pub record AreCounted : Type 0 where
   pub no_rows : has_file (shown_with (verdict.NoRows 8)) ≡ false
   pub conflict : has_file (shown_with (verdict.Conflict 8)) ≡ false
   pub no_session : has_file None ≡ false
+  -- of session 0 what `recover` answers: its file, or where it stands
+  pub recovers : file_of (shown_whole (verdict.Complete 8)) ≡ Ok (7 ∷ [])
+  pub recovers_none : file_of None ≡ Err no_file.None
+  pub recovers_receiving : file_of (shown_whole verdict.Receiving) ≡ Err no_file.Receiving
+  pub recovers_no_rows : file_of (shown_whole (verdict.NoRows 8)) ≡ Err no_file.NoRows
+  pub recovers_conflict : file_of (shown_whole (verdict.Conflict 8)) ≡ Err no_file.Conflict
+  pub recovers_of_0 : recovery_by (Some (second_device (Some heard_session))) ≡ Err no_file.None
+  pub recovers_of_nobody : recovery_by None ≡ Err no_file.None
   -- one device more
   pub heard_more : (with_device some_counted (At request.Check) (counted_device (Some heard_session))).heard ≡ 12
   pub complete_more : (with_device some_counted Updated (counted_device (Some heard_session))).complete

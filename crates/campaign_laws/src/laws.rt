@@ -6,7 +6,7 @@ ghost use Rattle.campaign_laws.specs.Independence.{DevicesAreIndependent};
 ghost use Rattle.campaign_laws.specs.Ledger.{TheLedgerIsTrue};
 ghost use Rattle.campaign_laws.specs.Recovers.{RecoversTheImage, RecoversItsOwn};
 ghost use Rattle.campaign_laws.specs.Verdicts.{Verdicts};
-ghost use Rattle.campaign_laws.specs.WorkedCampaigns.{AreCauses, AreCounted, AreRefused, AreReported, AreSessions};
+ghost use Rattle.campaign_laws.specs.WorkedCampaigns.{AreCauses, AreCounted, ArePlanned, AreRefused, AreReported, AreSessions};
 ghost use Rattle.campaign_laws.specs.Accepted.{AllSeedsHaveCampaigns};
 ghost use Rattle.campaign_laws.specs.Once.{MovesOnce, PastMovesNone};
 ghost use Rattle.campaign_laws.specs.Airing.{AirIsDown};
@@ -44,13 +44,14 @@ pub fn sessions_live()
 {}
 
 /// Campaigns that are worked out have these reports, with two sessions of one device among them, and these first refused lines,
-/// each by its first cause; and what a summary counts.
+/// each by its first cause; what a summary counts, and `recover` answers; and what each line of a plan makes of it.
 pub fn worked_campaigns()
     ensures reported { AreReported }
     ensures refused { AreRefused }
     ensures causes { AreCauses }
     ensures sessions { AreSessions }
     ensures counted { AreCounted }
+    ensures planned { ArePlanned }
 {}
 
 /// Whatever image and accepted script there are: the record of each device is its own first one, after the events of the

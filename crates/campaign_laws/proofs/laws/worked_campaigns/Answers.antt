@@ -1,4 +1,4 @@
-use Rattle.campaign_laws.proofs.WorkedCampaigns.{reported_so, refused_so, causes_so, sessions_so, counted_so}
+use Rattle.campaign_laws.proofs.WorkedCampaigns.{reported_so, refused_so, causes_so, sessions_so, counted_so, planned_so}
 use Rattle.campaign_laws.proofs.laws.worked_campaigns.Goals as goal
 
 pub returns-clause-reported : goal.returns-clause-reported
@@ -15,3 +15,6 @@ returns-clause-sessions c = sessions_so
 
 pub returns-clause-counted : goal.returns-clause-counted
 returns-clause-counted c = counted_so
+
+pub returns-clause-planned : goal.returns-clause-planned
+returns-clause-planned c = planned_so
