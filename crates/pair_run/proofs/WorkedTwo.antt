@@ -32,7 +32,9 @@ use Rattle.campaign_world.specs.Making.{with_device, after_form}
 use Rattle.campaign_world.specs.Script.{read_line, read_lines, campaign_of}
 use Rattle.campaign_world.specs.Report.{device_parts, report_of}
 use Rattle.row_elimination.specs.Room.{has_room, words_for}
+use Rattle.frag_model.specs.Fragments.{line_of, pieces_at, xor_bytes, xor_all}
 use Rattle.frag_model.specs.Verdict.{verdict, missing}
+use Rattle.frag_encoder.specs.Encoding.{pieces_of, data_of}
 use Rattle.frag_session.specs.Setup.{setup_bits, wrong_coding, too_large, other_descriptor, same_setup, lives}
 use Rattle.frag_session.specs.Session.{new_session, renewed, after_setup, excludes, cause_of as session_cause, drop_cause, followed, after_fragment as session_after_fragment, shape_of, shown_verdict, shown_file, seen_of}
 use Rattle.device_core.specs.Fragments.{setup_step, fragment_step, heard_step}
@@ -47,11 +49,13 @@ use Rattle.pair_run.specs.PairReport.{pair_parts, pair_report_of}
 use Rattle.pair_run.specs.WorkedTwo.{ArePairsReported, ArePairsSessions, ArePairsRefused}
 
 pub reported_so : ArePairsReported
-unfolding campaigns_of read_pair_lines read_pair_line after_pair_line pair_form_of common_cause pair_cause_of after_target target_of pair_parts pair_report_of digits int_wrap campaign_of read_lines read_line cause_of form_cause in_range after_form with_device report_of device_parts view_of lines_of words_of word decimal_of key_of hex_number_of hex_bytes_of decode_pairs form_of next_fragment after_fragment status_to_all after_status_to_all request_of request_at is_for lowest_of highest_of further format_of firmware_of number_at uplink_step read_uplink reading_of read_from command_at named_at stop_at is_known sync.is_known sync.samples cast.is_known cast.samples clock_up clock_down firmware_up firmware_down fragment_up fragment_down group_up group_down stage_after_all stage_after time_answer delivery heard_delivery read_delivery message_delivery after_due_reboot after_migration after_raise after_swap hears after_commands step command_step after_answers answer_step version_step waking time_asking radio brought fault_without_group
+unfolding campaigns_of read_pair_lines read_pair_line after_pair_line pair_form_of common_cause pair_cause_of after_target target_of pair_parts pair_report_of digits int_wrap campaign_of read_lines read_line cause_of form_cause in_range after_form with_device report_of device_parts view_of lines_of words_of word decimal_of key_of hex_number_of hex_bytes_of decode_pairs form_of next_fragment after_fragment status_to_all after_status_to_all request_of request_at is_for lowest_of highest_of further format_of firmware_of number_at uplink_step read_uplink reading_of read_from command_at named_at stop_at is_known sync.is_known sync.samples cast.is_known cast.samples clock_up clock_down firmware_up firmware_down fragment_up fragment_down group_up group_down stage_after_all stage_after time_answer delivery heard_delivery read_delivery message_delivery after_due_reboot after_migration after_raise after_swap hears after_commands step command_step after_answers answer_step version_step waking time_asking radio brought fault_without_group drop_cause session_cause excludes fragment_step data_of pieces_of line_of pieces_at xor_bytes xor_all
 reported_so = record {
   nobody = refl;
   one_each = refl;
   turned = refl;
+  crossed = refl;
+  one_time = refl;
 }
 
 pub sessions_so : ArePairsSessions
@@ -74,6 +78,8 @@ refused_so = record {
   no_device_of_a = refl;
   device_behind_an_event = refl;
   behind_the_end = refl;
+  b_before_a_window = refl;
+  no_window_of_b = refl;
   order_before_range = refl;
   index = refl;
   same_index = refl;
@@ -92,6 +98,11 @@ refused_so = record {
   sent_to_one = refl;
   no_frame = refl;
   time = refl;
+  of_both = refl;
+  of_both_turned = refl;
+  of_a = refl;
+  of_b = refl;
+  of_none = refl;
   fragments_of_a = refl;
   long_line = refl;
   longest_line = refl;

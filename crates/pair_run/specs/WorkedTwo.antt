@@ -6,7 +6,7 @@ use Rattle.report_lines.specs.declared.faults.LineFault.{LineFault}
 use Rattle.report_lines.specs.declared.faults.LineWhy.{LineWhy}
 use Rattle.report_lines.specs.declared.faults.LineWhy.TheVariants as why
 use Rattle.pair_run.specs.Pair.{PairState, first_pair}
-use Rattle.pair_run.specs.PairCauses.{pair_cause_of}
+use Rattle.pair_run.specs.PairCauses.{first_of, pair_cause_of}
 use Rattle.pair_run.specs.PairScript.{read_pair_lines, campaigns_in}
 use Rattle.pair_run.specs.PairReport.{pair_report_of}
 
@@ -57,6 +57,11 @@ pub record ArePairsReported : Type 0 where
       "fuota 2\nimage a 13 0 0\nimage b 26 4 1\ndevice 1 b c 3 0 5 00000000000000000000000000000000\ndevice 2 a c 1 0 0 00000000000000000000000000000000\nwake 1\nup b1\nask 2\ndown a1 2\nup a1\nend\n")
       ≡ reported (codes
       "fuota report 2\nimage a 52 fragments 4 size 13 padding 0 parity 0 index 0\nimage b 56 fragments 3 size 26 padding 22 parity 4 index 1\ndevice 1 b version clock 5 token 0 running 0 next none\ncounts deaf 0 refused 0 full 0 dropped 0\ndevice 2 a fragments clock 0 token 0 running 0 next none\ncounts deaf 0 refused 0 full 0 dropped 0\nend\n")
+  -- a fragment of either reaches a device of the other, which has no such session; and the time is that of both
+  pub crossed : told (two_devices (codes "frag a\nfrag b\ndown a1 2\ndown b1 1\ndown b1 1\nend\n")) ≡ reported (codes
+      "fuota report 2\nimage a 52 fragments 4 size 13 padding 0 parity 0 index 0\nimage b 56 fragments 3 size 26 padding 22 parity 4 index 1\ndevice 1 a version clock 5 token 0 running 0 next none\ncounts deaf 0 refused 0 full 0 dropped 2\ndevice 2 b version clock 0 token 0 running 0 next none\ncounts deaf 0 refused 0 full 0 dropped 1\nend\n")
+  pub one_time : told (two_devices (codes "at 10000\nwake 2\nup b1\nwake 1\nup a1\ndown a1 1\nend\n")) ≡ reported (codes
+      "fuota report 2\nimage a 52 fragments 4 size 13 padding 0 parity 0 index 0\nimage b 56 fragments 3 size 26 padding 22 parity 4 index 1\ndevice 1 a version clock 0 token 1 running 0 next none\ncounts deaf 0 refused 0 full 0 dropped 0\ndevice 2 b version clock 0 token 0 running 0 next none\ncounts deaf 0 refused 0 full 0 dropped 0\nend\n")
 
 pub record ArePairsSessions : Type 0 where
   -- each device has a session at its campaign's index
@@ -82,6 +87,10 @@ pub record ArePairsRefused : Type 0 where
       "fuota 2\nimage a 13 0 0\nimage b 26 0 1\ndevice 1 b c 1 0 0 00000000000000000000000000000000\nend\n") ≡ refused 5 why.Order
   pub device_behind_an_event : told (two_devices (codes "at 1\ndevice 3 a c 1 0 0 00000000000000000000000000000000\n")) ≡ refused 7 why.Order
   pub behind_the_end : told (two_devices (codes "end\nat 1\n")) ≡ refused 7 why.Order
+  pub b_before_a_window : told (codes "fuota 2\nimage a 13 0 0\ngroup a 1 11223344 00000000000000000000000000000000 0 10\nimage b 26 0 1\n")
+      ≡ refused 4 why.Order
+  pub no_window_of_b : told (two_groups (codes "group b 2 55667788 00000000000000000000000000000000 0 10\ndevice 1 a c 1 0 0 00000000000000000000000000000000\n"))
+      ≡ refused 7 why.Order
   -- ---- range
   pub order_before_range : told (codes "fuota 2\nimage b 240 0 4\n") ≡ refused 2 why.Order
   pub index : told (codes "fuota 2\nimage a 13 0 4\n") ≡ refused 2 why.Range
@@ -110,6 +119,12 @@ pub record ArePairsRefused : Type 0 where
   pub sent_to_one : told (two_devices (codes "ask 1\ndown a1 2\n")) ≡ refused 7 why.Unsent
   pub no_frame : told (two_devices (codes "frag a\nair a1 2\n")) ≡ refused 7 why.Unsent
   pub time : told (two_devices (codes "at 5\nat 4\n")) ≡ refused 7 why.Time
+  -- of what both refuse the cause of a, and of what one refuses its cause
+  pub of_both : first_of (Some why.Time) (Some why.Order) ≡ Some why.Time
+  pub of_both_turned : first_of (Some why.Order) (Some why.Time) ≡ Some why.Order
+  pub of_a : first_of (Some why.Time) None ≡ Some why.Time
+  pub of_b : first_of None (Some why.Time) ≡ Some why.Time
+  pub of_none : first_of None None ≡ None
   -- each has its own fragments, of a four and of b seven
   pub fragments_of_a : told (two_devices (codes "frag a\nfrag b\nfrag a\nfrag a\nfrag a\nfrag a\n")) ≡ refused 11 why.Limit
   -- ---- the limits of a line, by either count
