@@ -15,9 +15,8 @@ use file_flash::FileFlash;
 use frag_session::Verdict;
 use mc_keys::RootKind;
 use package_grammar::{Downlink, To};
-use std::env;
-use std::io;
 use std::io::ErrorKind;
+use std::{env, io};
 use wire_base::{MAX_PAYLOAD, Payload};
 
 /// Bytes of the file for each of the four sessions: as much as 256 pieces of 48 bytes need.

@@ -53,7 +53,14 @@ fn made_again(rt: &impl Abort, alloc: Global, server: Server) -> Server
     let bytes = kept(&server);
     drop(server);
     assert!(rt; is_image(&IMAGE));
-    match again(alloc, &IMAGE, group(), 1000, devices(rt, alloc), bytes.as_slice()) {
+    match again(
+        alloc,
+        &IMAGE,
+        group(),
+        1000,
+        devices(rt, alloc),
+        bytes.as_slice(),
+    ) {
         Ok(server) => server,
         Err(_) => panic!(rt; "bytes of no server"),
     }
