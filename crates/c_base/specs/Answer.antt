@@ -43,6 +43,10 @@ spent = 9
 abbrev pub corrupt : ℕ
 corrupt = 10
 
+-- bytes are no frame of the group that a device hears
+abbrev pub foreign : ℕ
+foreign = 11
+
 -- where a call answers bits of a refusal, and there is no receiver
 abbrev pub no_receiver : ℕ
 no_receiver = 255

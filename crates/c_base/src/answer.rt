@@ -22,6 +22,8 @@ pub const FULL: u8 = 8;
 pub const SPENT: u8 = 9;
 /// The saved bytes are of no object that is so set up.
 pub const CORRUPT: u8 = 10;
+/// The bytes are no frame of the group that the device hears.
+pub const FOREIGN: u8 = 11;
 
 /// Where a call answers bits of a refusal, and there is no receiver.
 pub const NO_RECEIVER: u8 = 255;

@@ -1,13 +1,14 @@
 -- The text of a payload, for C.
-use Rattle.std.specs.Prelude.{◌≡◌, ◌⊎◌, ◌<◌, ℕ, Bool, true, false, List, length, Ok, Err}
+use Rattle.std.specs.Prelude.{◌≡◌, ◌⊎◌, ◌<◌, ◌≤◌, ℕ, Bool, true, false, List, length, Ok, Err}
 use Rattle.wire_base.specs.declared.refusal.Direction.{Direction}
 use Rattle.wire_base.specs.declared.refusal.Direction.TheVariants.{Up, Down}
 use Rattle.wire_base.specs.declared.refusal.Refusal.{Refusal}
 use Rattle.wire_base.specs.declared.refusal.Why.{Why}
 use Rattle.wire_base.specs.declared.refusal.Why.TheVariants as why
-use Rattle.package_grammar.specs.Reading.{Reading}
+use Rattle.wire_base.specs.Payload.{max_payload}
+use Rattle.package_grammar.specs.Reading.{Reading, reading_of}
 use Rattle.sample_decoder.specs.Lines.{lines_of}
-use Rattle.c_base.specs.Answer.{done, no_room, no_memory, refused}
+use Rattle.c_base.specs.Answer.{done, range, no_room, no_memory, refused}
 use Rattle.c_base.specs.Bytes.{IsPut}
 use Rattle.fuota_c.specs.declared.decoding.DecodedFields.{DecodedFields}
 
@@ -63,3 +64,9 @@ IsTextOut text old new before out answer = IsTold text old new before out answer
 abbrev pub IsDecoded : Reading → (old new : List ℕ) → (before out : DecodedFields) → (answer : ℕ) → Type 0
 IsDecoded (Ok commands) old new before out answer = IsTextOut (lines_of commands) old new before out answer
 IsDecoded (Err refusal) old new before out answer = IsRefusal refusal old new before out answer
+
+-- a payload that a radio can bring is told; of a longer one nothing is written
+pub record DecodesOrNot (port : ℕ) (direction : Direction) (payload old new : List ℕ) (before out : DecodedFields)
+    (answer : ℕ) : Type 0 where
+  pub told : length payload ≤ max_payload → IsDecoded (reading_of port direction payload) old new before out answer
+  pub long : max_payload < length payload → (answer ≡ range) × (new ≡ old) × (out ≡ before)

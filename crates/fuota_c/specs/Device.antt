@@ -5,20 +5,24 @@ use Rattle.package_grammar.specs.declared.downlink.To.{To}
 use Rattle.package_grammar.specs.declared.downlink.To.TheVariants.{Unicast, Group}
 use Rattle.package_grammar.specs.declared.downlink.Downlink.{Downlink}
 use Rattle.frag_session.specs.Session.{view_of}
-use Rattle.mc_keys.specs.declared.root_kind.RootKind.TheVariants.{V10}
+use Rattle.mc_keys.specs.declared.root_kind.RootKind.{RootKind}
+use Rattle.mc_keys.specs.declared.root_kind.RootKind.TheVariants.{V10, V11}
 use Rattle.device_core.specs.declared.config.Class.{Class}
 use Rattle.device_core.specs.declared.config.Class.TheVariants.{A, C}
 use Rattle.device_core.specs.declared.config.DeviceConfig.{DeviceConfig}
 use Rattle.device_core.specs.declared.delivered.Delivered.{Delivered}
 use Rattle.device_core.specs.declared.delivered.Delivered.TheVariants as delivered
+use Rattle.device_core.specs.declared.delivered.Aired.{Aired}
+use Rattle.device_core.specs.declared.delivered.Aired.TheVariants.{Foreign, Heard}
 use Rattle.device_core.specs.declared.delivered.OutboxFull.{OutboxFull}
 use Rattle.device_core.specs.declared.uplink.Uplink.{Uplink}
 use Rattle.device_core.specs.SessionTable.{session_at}
 use Rattle.device_core.specs.Device.{DeviceState, first_device, is_config, max_moment, max_sessions}
 use Rattle.device_core.specs.Deliver.{Outcome, delivery, waking, taking}
+use Rattle.device_core.specs.Radio.{radio}
 use Rattle.flash_session.specs.Flashes.{Cells}
 use Rattle.device_core.specs.HeldDevice.{HeldDevice, DeviceStands, Becomes, Makes}
-use Rattle.c_base.specs.Answer.{done, nothing, range, no_memory, no_object, refused, deaf, full}
+use Rattle.c_base.specs.Answer.{done, nothing, range, no_memory, no_object, refused, deaf, full, foreign}
 use Rattle.c_base.specs.Bytes.{IsPut, Copied}
 use Rattle.fuota_c.specs.declared.device.ConfigFields.{ConfigFields}
 use Rattle.fuota_c.specs.declared.device.ArrivalFields.{ArrivalFields}
@@ -32,6 +36,10 @@ abbrev pub class_of : (is_class_c : Bool) → Class
 class_of true = C
 class_of false = A
 
+abbrev pub root_of : (is_v11 : Bool) → RootKind
+root_of true = V11
+root_of false = V10
+
 abbrev pub where_told : {X : Type 0} → (has : Bool) → X → Option X
 where_told true x = Some x
 where_told false x = None
@@ -44,7 +52,7 @@ config_of fields = record {
   rows = fields.rows;
   offset = fields.offset;
   key = fields.key;
-  root = V10;
+  root = root_of fields.is_v11;
   descriptor = where_told fields.has_descriptor fields.descriptor;
   sessions = fields.sessions;
   groups = fields.groups;
@@ -100,6 +108,18 @@ pub record DeliversOrNot (x y : HeldDevice Cells) (port : ℕ) (payload : List �
 
 pub record WakesOrNot (x y : HeldDevice Cells) (t : ℕ) (answer : ℕ) : Type 0 where
   pub wakes : t ≤ max_moment → Makes ℕ x y answer (λ device. as_number woken_number (waking t device))
+  pub late : max_moment < t → (answer ≡ range) × (y ≡ x)
+
+-- ---- what its radio heard
+
+-- bytes that are no frame for it
+abbrev pub aired_number : Aired → ℕ
+aired_number (Foreign fault) = foreign
+aired_number (Heard delivered) = delivered_number delivered
+
+-- bytes at a moment that a device knows come to it; at a later one nothing changes
+pub record HearsFrameOrNot (x y : HeldDevice Cells) (bytes : List ℕ) (t word mark answer : ℕ) : Type 0 where
+  pub hears : t ≤ max_moment → Makes ℕ x y answer (λ device. as_number aired_number (radio t word mark bytes device))
   pub late : max_moment < t → (answer ≡ range) × (y ≡ x)
 
 -- ---- what goes

@@ -4,3 +4,4 @@ pub mod Receiver
 pub mod Decoded
 pub mod Device
 pub mod Saving
+pub mod Telling

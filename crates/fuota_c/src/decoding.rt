@@ -2,13 +2,13 @@
 
 ghost use Rattle.std.specs.Prelude.{◌≡◌};
 ghost use Rattle.package_grammar.specs.Reading.{reading_of};
-ghost use Rattle.fuota_c.specs.Decoded.{IsDecoded, direction_of, why_number};
+ghost use Rattle.fuota_c.specs.Decoded.{DecodesOrNot, IsDecoded, direction_of, why_number};
 
-use c_base::answer::{DONE, NO_MEMORY, NO_ROOM, REFUSED};
+use c_base::answer::{DONE, NO_MEMORY, NO_ROOM, RANGE, REFUSED};
 use c_base::put_whole;
 use sample_decoder::{DecodeError, decode};
 use std::alloc::Global;
-use wire_base::{Direction, Why};
+use wire_base::{Direction, MAX_PAYLOAD, Why};
 
 /// The bytes of a text; or at which byte a payload is refused, counted from 0, and why.
 #[repr(C)]
@@ -21,7 +21,7 @@ pub struct DecodedFields {
 
 /// The commands of a payload of port 200 to 203, each on a line, at the front of `text`: done, with the text's
 /// length. Refused where the payload spells no commands, with the place and why; no room where the text has more
-/// bytes, with its length; no memory.
+/// bytes, with its length; no memory; out of range at more than 242 bytes of payload.
 #[unsafe(no_mangle)]
 pub extern "C" fn fuota_decode(
     alloc: Global,
@@ -31,9 +31,12 @@ pub extern "C" fn fuota_decode(
     text: &mut [u8],
     out: &mut DecodedFields,
 ) -> u8
-    ensures { IsDecoded (reading_of port (direction_of up) payload.now)
-        text.old text.new out.old out.new result }
+    ensures { DecodesOrNot port (direction_of up) payload.now text.old text.new out.old out.new
+        result }
 {
+    if payload.len() > MAX_PAYLOAD {
+        return RANGE;
+    }
     decode_into(alloc, port, direction_of(up), payload, text, out)
 }
 

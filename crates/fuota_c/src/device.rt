@@ -7,7 +7,7 @@ ghost use Rattle.device_core.specs.HeldDevice.{DeviceStands};
 ghost use Rattle.device_core.specs.declared.config.ReserveError.{ReserveError};
 ghost use Rattle.c_base.specs.Answer.{done, no_object};
 ghost use Rattle.c_base.specs.Calls.{Does, Tells};
-ghost use Rattle.fuota_c.specs.Device.{IsNewDevice, DeliversOrNot, WakesOrNot, TakesUplink, IsUplinkOut, IsSessionShown, IsSessionFile, config_of, downlink_of, delivered_number};
+ghost use Rattle.fuota_c.specs.Device.{IsNewDevice, DeliversOrNot, WakesOrNot, TakesUplink, IsUplinkOut, IsSessionShown, IsSessionFile, config_of, downlink_of, delivered_number, root_of};
 
 use crate::device_handle::DeviceHandle;
 use crate::shown::{ViewFields, file_in, show};
@@ -26,7 +26,7 @@ use wire_base::{MAX_PAYLOAD, Payload};
 const SESSIONS: u8 = 4;
 
 /// The last ms of true time at which a device is called.
-const MAX_MOMENT: u64 = 4_294_967_295_999;
+pub(crate) const MAX_MOMENT: u64 = 4_294_967_295_999;
 
 /// What a device is configured with, as `DeviceConfig` of `device_core` has it.
 #[repr(C)]
@@ -44,7 +44,8 @@ pub struct ConfigFields {
     pub has_descriptor: bool,
     /// It always hears unicast payloads; else in the two windows after its uplink.
     pub is_class_c: bool,
-    /// GenAppKey of LoRaWAN 1.0.
+    /// The key is AppKey of LoRaWAN 1.1; else GenAppKey of LoRaWAN 1.0.
+    pub is_v11: bool,
     pub key: [u8; 16],
 }
 
@@ -135,7 +136,7 @@ pub fn config_of(fields: &ConfigFields) -> DeviceConfig
         rows: fields.rows,
         offset: fields.offset,
         key: fields.key,
-        root: RootKind::V10,
+        root: root_of(fields.is_v11),
         descriptor,
         sessions: fields.sessions,
         groups: fields.groups,
@@ -143,6 +144,12 @@ pub fn config_of(fields: &ConfigFields) -> DeviceConfig
         held: false,
         span: 0,
     }
+}
+
+fn root_of(is_v11: bool) -> RootKind
+    ensures { result ≡ root_of is_v11 }
+{
+    if is_v11 { RootKind::V11 } else { RootKind::V10 }
 }
 
 /// Frees the device, if there is one; the handle has none afterwards.
@@ -211,7 +218,8 @@ fn downlink_of(port: u8, payload: &[u8], arrival: &ArrivalFields) -> Downlink
     }
 }
 
-fn delivered_number(delivered: Delivered) -> u8
+/// The number of what became of a payload.
+pub fn delivered_number(delivered: Delivered) -> u8
     ensures { result ≡ delivered_number delivered }
 {
     match delivered {

@@ -7,7 +7,9 @@
 mod decoding;
 mod device;
 mod device_handle;
+mod radio;
 mod receiver;
 mod receiver_handle;
 mod saving;
 mod shown;
+mod telling;

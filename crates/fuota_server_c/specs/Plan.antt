@@ -1,8 +1,8 @@
 -- What a server is to do, as C tells it, and the server that comes of it.
-use Rattle.std.specs.Prelude.{◌≡◌, ◌⊎◌, ℕ, ◌/◌, Bool, true, false, List, length, map, Option, Some, None, Result, Ok, Err}
-use Rattle.core.specs.Simd.{first_chunks}
+use Rattle.std.specs.Prelude.{◌≡◌, ◌⊎◌, ℕ, Bool, true, false, List, length, map, Option, Some, None, Result, Ok, Err}
 use Rattle.image_slots.specs.Image.{is_image}
-use Rattle.mc_keys.specs.declared.root_kind.RootKind.TheVariants.{V10}
+use Rattle.mc_keys.specs.declared.root_kind.RootKind.{RootKind}
+use Rattle.mc_keys.specs.declared.root_kind.RootKind.TheVariants.{V10, V11}
 use Rattle.campaign_server.specs.declared.plan.Field.{Field}
 use Rattle.campaign_server.specs.declared.plan.Field.TheVariants as field
 use Rattle.campaign_server.specs.declared.plan.Kind.{Kind}
@@ -15,6 +15,7 @@ use Rattle.campaign_server.specs.declared.server.ServerError.TheVariants as erro
 use Rattle.campaign_server.specs.Plan.{Plan, bad_field}
 use Rattle.campaign_server.specs.Server.{ServerState, first_server}
 use Rattle.c_base.specs.Answer.{done, range, no_memory, refused}
+use Rattle.fuota_server_c.specs.declared.plan.PlanDeviceFields.{PlanDeviceFields}
 use Rattle.fuota_server_c.specs.declared.plan.PlanFields.{PlanFields}
 
 -- ---- the plan
@@ -45,21 +46,21 @@ window_of fields = where_told fields.has_window (record {
   dr = fields.dr;
 })
 
-abbrev pub device_of : (key : List ℕ) → PlanDevice
-device_of key = record { key = key; root = V10 }
+abbrev pub root_of : (is_v11 : Bool) → RootKind
+root_of true = V11
+root_of false = V10
 
--- whole keys of 16 bytes
-abbrev pub devices_of : (keys : List ℕ) → List PlanDevice
-devices_of keys = map device_of (first_chunks 16 (length keys / 16) keys)
+abbrev pub device_of : PlanDeviceFields → PlanDevice
+device_of fields = record { key = fields.key; root = root_of fields.is_v11 }
 
-abbrev pub plan_of : PlanFields → (keys : List ℕ) → Plan
-plan_of fields keys = record {
+abbrev pub plan_of : PlanFields → List PlanDeviceFields → Plan
+plan_of fields devices = record {
   frag_size = fields.frag_size;
   parity = fields.parity;
   index = fields.index;
   group = group_of fields;
   window = window_of fields;
-  devices = devices_of keys;
+  devices = map device_of devices;
 }
 
 -- ---- the server

@@ -1,6 +1,7 @@
 -- What the calls of a server write for C.
-use Rattle.std.specs.Prelude.{◌≡◌, ◌&&◌, ℕ, Bool, true, false, nat_le, length, Option, Some, None, option_map, Result, Ok, Err}
+use Rattle.std.specs.Prelude.{◌≡◌, ◌&&◌, ℕ, Bool, true, false, nat_le, List, length, take, Option, Some, None, option_map, Result, Ok, Err}
 use Rattle.wire_base.specs.declared.refusal.Refusal.{Refusal}
+use Rattle.wire_base.specs.Payload.{max_payload}
 use Rattle.package_grammar.specs.declared.downlink.To.{To}
 use Rattle.package_grammar.specs.declared.downlink.To.TheVariants.{Unicast, Group}
 use Rattle.package_grammar.specs.declared.downlink.Downlink.{Downlink}
@@ -13,10 +14,11 @@ use Rattle.campaign_server.specs.declared.stage.Stage.TheVariants.{At, Updated, 
 use Rattle.campaign_server.specs.Server.{ServerState, ledger}
 use Rattle.campaign_server.specs.Asking.{request_of}
 use Rattle.campaign_server.specs.Fragments.{next_fragment, after_fragment, status_to_all, after_status_to_all}
+use Rattle.campaign_server.specs.Framing.{has_frame, frame_for}
 use Rattle.campaign_server.specs.Uplinks.{UplinkStep}
 use Rattle.campaign_server.specs.Sent.{down_of, result_of, answer_of}
 use Rattle.c_base.specs.Answer.{done, nothing, range, refused, spent}
-use Rattle.c_base.specs.Bytes.{IsPut}
+use Rattle.c_base.specs.Bytes.{IsPut, Whole}
 use Rattle.fuota_server_c.specs.declared.sent.DownFields.{DownFields}
 use Rattle.fuota_server_c.specs.declared.server.StageFields.{StageFields}
 
@@ -46,6 +48,19 @@ pub record IsDownOut (down : Downlink) (old new : DownFields) : Type 0 where
 abbrev pub IsOut : Option Downlink → (none : ℕ) → (old new : DownFields) → (answer : ℕ) → Type 0
 IsOut None none old new answer = (answer ≡ none) × (new ≡ old)
 IsOut (Some down) none old new answer = (answer ≡ done) × IsDownOut down old new
+
+-- ---- a payload that is told, as the frame that goes out
+
+abbrev pub downlink_of : DownFields → Downlink
+downlink_of fields = record { to = to_of fields; port = fields.port; payload = take fields.length fields.payload }
+
+-- it is a payload, to the plan's group, and not on port 0
+abbrev pub can_frame : ServerState → DownFields → Bool
+can_frame server fields = nat_le fields.length max_payload && has_frame server.plan.group (downlink_of fields)
+
+pub record GivesFrame (x : ServerState) (fields : DownFields) (old new : List ℕ) (n : ℕ) : Type 0 where
+  pub framed : can_frame x fields ≡ true → Whole (frame_for x.plan.group (downlink_of fields)) old new n
+  pub none : can_frame x fields ≡ false → (n ≡ 0) × (new ≡ old)
 
 -- ---- to all devices
 
@@ -80,11 +95,15 @@ abbrev pub IsUplinkAnswer : Result (Option Downlink) Refusal → (old new : Down
 IsUplinkAnswer (Ok down) old new answer = IsOut down nothing old new answer
 IsUplinkAnswer (Err refusal) old new answer = (answer ≡ refused) × (new ≡ old)
 
-pub record TakesUplink (x y : ServerState) (dev : ℕ) (step : UplinkStep) (old new : DownFields) (answer : ℕ)
-    : Type 0 where
-  pub moved : has_device x dev ≡ true → y ≡ step.server
-  pub out : has_device x dev ≡ true → IsUplinkAnswer (answer_of step.answer) old new answer
-  pub beyond : has_device x dev ≡ false → (answer ≡ range) × (y ≡ x) × (new ≡ old)
+-- an uplink that a radio can bring, of a device of the plan, is taken; any other changes nothing
+abbrev pub can_take : ServerState → (dev : ℕ) → (payload : List ℕ) → Bool
+can_take server dev payload = has_device server dev && nat_le (length payload) max_payload
+
+pub record TakesUplink (x y : ServerState) (dev : ℕ) (payload : List ℕ) (step : UplinkStep) (old new : DownFields)
+    (answer : ℕ) : Type 0 where
+  pub moved : can_take x dev payload ≡ true → y ≡ step.server
+  pub out : can_take x dev payload ≡ true → IsUplinkAnswer (answer_of step.answer) old new answer
+  pub beyond : can_take x dev payload ≡ false → (answer ≡ range) × (y ≡ x) × (new ≡ old)
 
 -- ---- the ledger
 

@@ -1,6 +1,7 @@
 //! A server that knows how many devices its plan has.
 
 use campaign_server::{Plan, RestoreError, SavedServer, Server, ServerError, Spent, Stage};
+use mc_frames::Frame;
 use package_grammar::Downlink;
 use std::alloc::Global;
 use std::marker::Model;
@@ -29,6 +30,7 @@ impl Campaign {
     ghost use Rattle.image_slots.specs.Image.{is_image};
     ghost use Rattle.campaign_server.specs.Server.{ledger};
     ghost use Rattle.campaign_server.specs.Asking.{request_of};
+    ghost use Rattle.campaign_server.specs.Framing.{has_frame, frame_for};
     ghost use Rattle.campaign_server.specs.Uplinks.{uplink_step};
     ghost use Rattle.campaign_server.specs.Fragments.{next_fragment, after_fragment, status_to_all, after_status_to_all};
     ghost use Rattle.campaign_server.specs.Sent.{down_of, result_of, answer_of};
@@ -105,6 +107,21 @@ impl Campaign {
         ensures moved { self.new ≡ after_status_to_all self.old }
     {
         self.server.status_all()
+    }
+
+    /// Whether a payload has a frame: it is to the plan's group, and its port isn't 0.
+    pub fn has_frame(&self, down: &Downlink) -> bool
+        ensures { result ≡ has_frame self.now.plan.group down.now }
+    {
+        self.server.has_frame(down)
+    }
+
+    /// A payload to the plan's group as the frame that goes out.
+    pub fn frame(&self, down: &Downlink) -> Frame
+        requires { has_frame self.now.plan.group down.now ≡ true }
+        ensures { result.items ≡ frame_for self.now.plan.group down.now }
+    {
+        self.server.frame(down)
     }
 
     /// An uplink of a device comes on a port, at `t` ms of GPS time.

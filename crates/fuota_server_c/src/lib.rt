@@ -6,6 +6,7 @@
 #![tactic(auto)]
 
 mod campaign;
+mod framing;
 mod plan;
 mod saving;
 mod sent;

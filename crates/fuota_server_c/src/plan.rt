@@ -1,13 +1,21 @@
 //! What a server is to do, as C tells it.
 
 ghost use Rattle.std.specs.Prelude.{◌≡◌, IfOk, map};
-ghost use Rattle.fuota_server_c.specs.Plan.{plan_of, group_of, window_of, kind_of, device_of, field_number};
+ghost use Rattle.fuota_server_c.specs.Plan.{plan_of, group_of, window_of, kind_of, device_of, root_of, field_number};
 
 use campaign_server::{Field, Kind, Plan, PlanDevice, PlanGroup, PlanWindow};
 use mc_keys::RootKind;
 use std::alloc::{AllocError, Global};
 
-/// What a server is to do, but for the devices' keys, as `Plan` of `campaign_server` has it.
+/// A device of the plan, by its key: AppKey of LoRaWAN 1.1 where `is_v11`, else GenAppKey of LoRaWAN 1.0.
+#[repr(C)]
+#[derive(Drop)]
+pub struct PlanDeviceFields {
+    pub key: [u8; 16],
+    pub is_v11: bool,
+}
+
+/// What a server is to do, but for the devices, as `Plan` of `campaign_server` has it.
 #[repr(C)]
 #[derive(Drop)]
 pub struct PlanFields {
@@ -30,12 +38,15 @@ pub struct PlanFields {
     pub key: [u8; 16],
 }
 
-/// The plan of these fields, for devices with these GenAppKeys of 16 bytes.
-pub fn plan_of(alloc: Global, fields: &PlanFields, keys: &[u8]) -> Result<Plan, AllocError>
-    ensures { IfOk result (λ plan. plan ≡ plan_of fields.now keys.now) }
+/// The plan of these fields, for these devices.
+pub fn plan_of(
+    alloc: Global,
+    fields: &PlanFields,
+    devices: &[PlanDeviceFields],
+) -> Result<Plan, AllocError>
+    ensures { IfOk result (λ plan. plan ≡ plan_of fields.now devices.now) }
 {
-    let (keys, _rest) = keys.as_chunks::<16>();
-    let devices = devices_of(alloc, keys)?;
+    let devices = devices_of(alloc, devices)?;
     Ok(Plan {
         frag_size: fields.frag_size,
         parity: fields.parity,
@@ -46,24 +57,29 @@ pub fn plan_of(alloc: Global, fields: &PlanFields, keys: &[u8]) -> Result<Plan, 
     })
 }
 
-fn devices_of(alloc: Global, keys: &[[u8; 16]]) -> Result<Vec<PlanDevice>, AllocError>
-    ensures { IfOk result (λ devices. devices.items ≡ map device_of keys.now) }
+fn devices_of(alloc: Global, told: &[PlanDeviceFields]) -> Result<Vec<PlanDevice>, AllocError>
+    ensures { IfOk result (λ devices. devices.items ≡ map device_of told.now) }
 {
     let mut devices = Vec::new(alloc);
-    for key in keys {
-        devices.push(device_of(key))?;
+    for device in told {
+        devices.push(device_of(device))?;
     }
     Ok(devices)
 }
 
-/// A device of LoRaWAN 1.0 with this GenAppKey.
-fn device_of(key: &[u8; 16]) -> PlanDevice
-    ensures { result ≡ device_of key.now }
+fn device_of(fields: &PlanDeviceFields) -> PlanDevice
+    ensures { result ≡ device_of fields.now }
 {
     PlanDevice {
-        key: *key,
-        root: RootKind::V10,
+        key: fields.key,
+        root: root_of(fields.is_v11),
     }
+}
+
+fn root_of(is_v11: bool) -> RootKind
+    ensures { result ≡ root_of is_v11 }
+{
+    if is_v11 { RootKind::V11 } else { RootKind::V10 }
 }
 
 fn group_of(fields: &PlanFields) -> Option<PlanGroup>

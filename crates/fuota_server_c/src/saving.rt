@@ -10,7 +10,7 @@ ghost use Rattle.fuota_server_c.specs.Plan.{plan_of};
 ghost use Rattle.fuota_server_c.specs.Saving.{IsRestored, IsServerBack};
 
 use crate::campaign::Campaign;
-use crate::plan::{PlanFields, field_number, plan_of};
+use crate::plan::{PlanDeviceFields, PlanFields, field_number, plan_of};
 use crate::server::fuota_server_free;
 use crate::server_handle::ServerHandle;
 use c_base::answer::{CORRUPT, DONE, NO_MEMORY, RANGE, REFUSED};
@@ -48,19 +48,19 @@ pub extern "C" fn fuota_server_restore(
     handle: &mut ServerHandle,
     alloc: Global,
     plan: &PlanFields,
-    keys: &[u8],
+    devices: &[PlanDeviceFields],
     image: &[u8],
     saved: &[u8],
     field: &mut u8,
 ) -> u8
-    ensures { IsServerBack image.now (plan_of plan.now keys.now) saved.now
+    ensures { IsServerBack image.now (plan_of plan.now devices.now) saved.now
         handle.new.held field.old field.new result }
 {
     fuota_server_free(handle, alloc);
     if !is_image(image) {
         return REFUSED;
     }
-    match boxed(alloc, plan, keys, image, saved) {
+    match boxed(alloc, plan, devices, image, saved) {
         Ok(server) => {
             *handle = ServerHandle::of(server);
             DONE
@@ -77,15 +77,15 @@ pub extern "C" fn fuota_server_restore(
 fn boxed(
     alloc: Global,
     fields: &PlanFields,
-    keys: &[u8],
+    devices: &[PlanDeviceFields],
     image: &[u8],
     saved: &[u8],
 ) -> Result<Box<Campaign>, RestoreError>
     requires { is_image image.now ≡ true }
-    ensures { IsRestored image.now (plan_of fields.now keys.now) saved.now
+    ensures { IsRestored image.now (plan_of fields.now devices.now) saved.now
         (result_map_both (λ b. b.value) (λ e. e) result) }
 {
-    let plan = match plan_of(alloc, fields, keys) {
+    let plan = match plan_of(alloc, fields, devices) {
         Ok(plan) => plan,
         Err(AllocError) => return Err(RestoreError::Memory),
     };

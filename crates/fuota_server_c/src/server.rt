@@ -10,7 +10,7 @@ ghost use Rattle.fuota_server_c.specs.Plan.{IsMade, IsNewServer, plan_of};
 ghost use Rattle.fuota_server_c.specs.Sent.{SendsFragment, SendsStatus, Asks, TakesUplink, TellsStage, IsOut, fields_of, request_number};
 
 use crate::campaign::Campaign;
-use crate::plan::{PlanFields, field_number, plan_of};
+use crate::plan::{PlanDeviceFields, PlanFields, field_number, plan_of};
 use crate::sent::{DownFields, put_down};
 use crate::server_handle::ServerHandle;
 use c_base::answer::{DONE, NO_MEMORY, NO_OBJECT, NOTHING, RANGE, REFUSED, SPENT};
@@ -18,6 +18,7 @@ use campaign_server::{Request, ServerError, Spent, Stage};
 use image_slots::is_image;
 use package_grammar::Downlink;
 use std::alloc::{AllocError, Global};
+use wire_base::MAX_PAYLOAD;
 
 /// Where a device stands: 0 at a request, 1 updated, 2 refused; the number of the request, and 0 at updated; the bits
 /// of the answer that refused, and else 0. Requests are 1 version, 2 group, 3 fragments, 4 window, 5 status, 6 image,
@@ -32,24 +33,24 @@ pub struct StageFields {
 
 /// Frees what was there, and puts a server at the start of a campaign into the handle: done; refused where the image
 /// is no image file; out of range where a field of the plan is wrong, with the number of the first in `field`; no
-/// memory. `keys` has the GenAppKey of each device in turn, 16 bytes each; a rest that is shorter is left out.
+/// memory. `devices` are the devices, 1 to 64, numbered from 1.
 #[unsafe(no_mangle)]
 pub extern "C" fn fuota_server_new(
     handle: &mut ServerHandle,
     alloc: Global,
     plan: &PlanFields,
-    keys: &[u8],
+    devices: &[PlanDeviceFields],
     image: &[u8],
     field: &mut u8,
 ) -> u8
-    ensures { IsNewServer image.now (plan_of plan.now keys.now)
+    ensures { IsNewServer image.now (plan_of plan.now devices.now)
         handle.new.held field.old field.new result }
 {
     fuota_server_free(handle, alloc);
     if !is_image(image) {
         return REFUSED;
     }
-    match boxed(alloc, plan, keys, image) {
+    match boxed(alloc, plan, devices, image) {
         Ok(server) => {
             *handle = ServerHandle::of(server);
             DONE
@@ -65,14 +66,14 @@ pub extern "C" fn fuota_server_new(
 fn boxed(
     alloc: Global,
     fields: &PlanFields,
-    keys: &[u8],
+    devices: &[PlanDeviceFields],
     image: &[u8],
 ) -> Result<Box<Campaign>, ServerError>
     requires { is_image image.now ≡ true }
-    ensures { IsMade image.now (plan_of fields.now keys.now)
+    ensures { IsMade image.now (plan_of fields.now devices.now)
         (result_map_both (λ b. b.value) (λ e. e) result) }
 {
-    let plan = match plan_of(alloc, fields, keys) {
+    let plan = match plan_of(alloc, fields, devices) {
         Ok(plan) => plan,
         Err(AllocError) => return Err(ServerError::Memory),
     };
@@ -194,7 +195,7 @@ fn ask(server: &Campaign, dev: u8, out: &mut DownFields) -> u8
 
 /// An uplink of a device came on a port, at `t` ms of GPS time, and its stage moves: done, with an answer to send;
 /// nothing, where none is due; refused where the payload spells no commands, out of range where the plan has no such
-/// device, and then nothing changes.
+/// device or the payload more than 242 bytes, and then nothing changes.
 #[unsafe(no_mangle)]
 pub extern "C" fn fuota_server_uplink(
     handle: &mut ServerHandle,
@@ -206,7 +207,8 @@ pub extern "C" fn fuota_server_uplink(
     out: &mut DownFields,
 ) -> u8
     ensures { Does handle.old.held handle.new.held
-        (λ x y. TakesUplink x y dev (uplink_step x dev port payload.now t) out.old out.new result)
+        (λ x y. TakesUplink x y dev payload.now (uplink_step x dev port payload.now t)
+        out.old out.new result)
         ((result ≡ no_object) × (out.new ≡ out.old)) }
 {
     match handle.take(alloc) {
@@ -227,10 +229,10 @@ fn uplink(
     t: u64,
     out: &mut DownFields,
 ) -> u8
-    ensures { TakesUplink server.old server.new dev (uplink_step server.old dev port payload.now t)
-        out.old out.new result }
+    ensures { TakesUplink server.old server.new dev payload.now
+        (uplink_step server.old dev port payload.now t) out.old out.new result }
 {
-    if !server.has_device(dev) {
+    if !server.has_device(dev) || payload.len() > MAX_PAYLOAD {
         return RANGE;
     }
     match server.uplink(dev, port, payload, t) {

@@ -1,0 +1,56 @@
+//! Frames that the radio of a device heard.
+
+ghost use Rattle.std.specs.Prelude.{◌≡◌};
+ghost use Rattle.c_base.specs.Answer.{no_object};
+ghost use Rattle.c_base.specs.Calls.{Does};
+ghost use Rattle.fuota_c.specs.Device.{HearsFrameOrNot, aired_number};
+
+use crate::device::{MAX_MOMENT, delivered_number};
+use crate::device_handle::DeviceHandle;
+use c_base::answer::{FOREIGN, NO_OBJECT, RANGE};
+use device_core::{Aired, Device};
+use flash_session::CellFlash;
+use std::alloc::Global;
+
+/// Bytes that the radio heard come at `t` ms of true time, with a random word and the number at which a verdict is marked:
+/// foreign where they are no frame of the group that is heard; else as its payload is by `fuota_device_deliver`. Out of range
+/// at a `t` of more than 4,294,967,295,999, where nothing changes.
+#[unsafe(no_mangle)]
+pub extern "C" fn fuota_device_radio(
+    handle: &mut DeviceHandle,
+    alloc: Global,
+    bytes: &[u8],
+    t: u64,
+    word: u32,
+    mark: u64,
+) -> u8
+    ensures { Does handle.old.held handle.new.held
+        (λ x y. HearsFrameOrNot x y bytes.now t word mark result) (result ≡ no_object) }
+{
+    match handle.take(alloc) {
+        None => NO_OBJECT,
+        Some(mut device) => {
+            let answer = radio_or_not(&mut device, bytes, t, word, mark);
+            *handle = DeviceHandle::of(device);
+            answer
+        }
+    }
+}
+
+fn radio_or_not(device: &mut Device<CellFlash>, bytes: &[u8], t: u64, word: u32, mark: u64) -> u8
+    ensures { HearsFrameOrNot device.old device.new bytes.now t word mark result }
+{
+    if t > MAX_MOMENT {
+        return RANGE;
+    }
+    aired_number(device.radio(t, bytes, word, mark))
+}
+
+fn aired_number(aired: Aired) -> u8
+    ensures { result ≡ aired_number aired }
+{
+    match aired {
+        Aired::Foreign(_) => FOREIGN,
+        Aired::Heard(delivered) => delivered_number(delivered),
+    }
+}
