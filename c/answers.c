@@ -14,6 +14,7 @@
 
 static const uint8_t FILE_BYTES[5] = {0x11, 0x22, 0x33, 0x44, 0x55};
 static uint8_t zeros[300];
+static const fuota_plan_device devices[2];
 
 static int without_objects(void) {
     fuota_receiver receiver = FUOTA_RECEIVER_NONE;
@@ -25,14 +26,21 @@ static int without_objects(void) {
     fuota_uplink up = {.due = 9};
     fuota_down down = {.addr = 9};
     fuota_stage stage = {.bits = 9};
+    fuota_counts counts = {.deaf = 9};
+    fuota_next next = {.version = 9};
     uint32_t version = 9;
     uint8_t bytes[8] = {0xEE};
+    SO(fuota_version() == FUOTA_VERSION_MAJOR * 65536 + FUOTA_VERSION_MINOR * 256 + FUOTA_VERSION_PATCH);
     SO(fuota_receiver_set_up(&receiver, &setup) == FUOTA_NO_RECEIVER);
     SO(fuota_receiver_hear(&receiver, zeros, 5, 1) == FUOTA_NO_OBJECT);
     SO(fuota_receiver_view(&receiver, &view) == FUOTA_NO_OBJECT && view.mark == 9);
     SO(fuota_receiver_file(&receiver, 0, bytes, 8) == 0 && bytes[0] == 0xEE);
     SO(fuota_receiver_status(&receiver, true, bytes, 8) == 0 && bytes[0] == 0xEE);
     SO(fuota_device_deliver(&device, 201, zeros, 0, &arrival) == FUOTA_NO_OBJECT);
+    SO(fuota_device_radio(&device, zeros, 20, 0, 0, 0) == FUOTA_NO_OBJECT);
+    SO(fuota_device_counts(&device, &counts) == FUOTA_NO_OBJECT && counts.deaf == 9);
+    SO(fuota_device_next(&device, &next) == FUOTA_NO_OBJECT && next.version == 9);
+    SO(fuota_device_raise(&device) == FUOTA_NO_OBJECT);
     SO(fuota_device_wake(&device, 0) == FUOTA_NO_OBJECT);
     SO(fuota_device_take_uplink(&device, &up) == FUOTA_NO_OBJECT && up.due == 9);
     SO(fuota_device_view(&device, 0, &view) == FUOTA_NO_OBJECT && view.mark == 9);
@@ -40,6 +48,7 @@ static int without_objects(void) {
     SO(fuota_device_running(&device, &version) == FUOTA_NO_OBJECT && version == 9);
     SO(fuota_server_next_fragment(&server, &down) == FUOTA_NO_OBJECT && down.addr == 9);
     SO(fuota_server_status_all(&server, &down) == FUOTA_NO_OBJECT);
+    SO(fuota_server_frame(&server, &down, bytes, 8) == 0 && bytes[0] == 0xEE);
     SO(fuota_server_ask(&server, 1, &down) == FUOTA_NO_OBJECT);
     SO(fuota_server_uplink(&server, 1, 201, zeros, 1, 0, &down) == FUOTA_NO_OBJECT && down.addr == 9);
     SO(fuota_server_ledger(&server, 1, &stage) == FUOTA_NO_OBJECT && stage.bits == 9);
@@ -62,7 +71,7 @@ static int receiver_answers(void) {
     fuota_view view = {0};
     uint8_t bytes[8];
     int i;
-    SO(fuota_receiver_new(&receiver) == FUOTA_DONE && receiver.at != NULL);
+    SO(fuota_receiver_new(&receiver, FUOTA_SIZE_SMALL) == FUOTA_DONE && receiver.at != NULL);
     SO(fuota_receiver_view(&receiver, &view) == FUOTA_NOTHING);
     other.index = 1;
     SO(fuota_receiver_set_up(&receiver, &other) == 4);
@@ -90,11 +99,31 @@ static int receiver_answers(void) {
     SO(fuota_receiver_file(&receiver, 0, bytes, 8) == 5 && !memcmp(bytes, FILE_BYTES, 5) && bytes[5] == 0xEE);
     SO(fuota_receiver_file(&receiver, 3, bytes, 1) == 1 && bytes[0] == 0x44 && bytes[1] == 0x22);
     SO(fuota_receiver_file(&receiver, (size_t)-1, bytes, 8) == 0);
-    SO(fuota_receiver_new(&receiver) == FUOTA_DONE); /* frees the first */
+    SO(fuota_receiver_new(&receiver, 0) == FUOTA_DONE); /* frees the first */
     SO(fuota_receiver_view(&receiver, &view) == FUOTA_NOTHING && view.file_length == 5);
     fuota_receiver_free(&receiver);
     SO(receiver.at == NULL);
     fuota_receiver_free(&receiver);
+    return 0;
+}
+
+/* Each size takes a file of so many pieces and bytes, and no larger one. */
+static int receiver_sizes(void) {
+    static const uint16_t pieces[3] = {256, 1024, 4096};
+    static const uint8_t piece[3] = {48, 48, 64};
+    fuota_receiver receiver = FUOTA_RECEIVER_NONE;
+    int size;
+    for (size = 0; size < 3; size++) {
+        fuota_setup setup = {.nb_frag = pieces[size], .frag_size = piece[size], .mask = 255, .delay = 255};
+        SO(fuota_receiver_new(&receiver, (uint8_t)size) == FUOTA_DONE);
+        SO(fuota_receiver_set_up(&receiver, &setup) == 0);
+        setup.frag_size++;
+        SO(fuota_receiver_set_up(&receiver, &setup) == 2);
+        setup.nb_frag++;
+        setup.frag_size = 1;
+        SO(fuota_receiver_set_up(&receiver, &setup) == 2);
+    }
+    SO(fuota_receiver_new(&receiver, 3) == FUOTA_RANGE && receiver.at == NULL);
     return 0;
 }
 
@@ -109,6 +138,8 @@ static int device_answers(void) {
     fuota_arrival arrival = {.t = 1000, .mark = 5};
     fuota_uplink up = {.port = 1};
     fuota_view view = {0};
+    fuota_counts counts = {0};
+    fuota_next next = {.version = 9};
     uint32_t version = 9;
     uint8_t bytes[8];
     int i;
@@ -117,6 +148,10 @@ static int device_answers(void) {
     config.sessions = 1;
     SO(fuota_device_new(&device, &config) == FUOTA_DONE && device.at != NULL);
     SO(fuota_device_take_uplink(&device, &up) == FUOTA_NOTHING && up.port == 1);
+    SO(fuota_device_radio(&device, zeros, 300, 1000, 1, 1) == FUOTA_FOREIGN);
+    SO(fuota_device_radio(&device, zeros, 20, UINT64_C(4294967296000), 1, 1) == FUOTA_RANGE);
+    SO(fuota_device_counts(&device, &counts) == FUOTA_DONE && counts.deaf == 1 && counts.refused == 0);
+    SO(fuota_device_next(&device, &next) == FUOTA_DONE && next.state == FUOTA_IMAGE_NONE && next.version == 0);
     SO(fuota_device_view(&device, 0, &view) == FUOTA_NOTHING);
     SO(fuota_device_view(&device, 4, &view) == FUOTA_RANGE);
     SO(fuota_device_file(&device, 255, 0, bytes, 8) == 0);
@@ -135,6 +170,8 @@ static int device_answers(void) {
         SO(fuota_device_deliver(&device, 201, rows[i], 5, &arrival) == FUOTA_DONE);
     SO(fuota_device_view(&device, 0, &view) == FUOTA_DONE && view.verdict == FUOTA_COMPLETE && view.mark == 5);
     SO(fuota_device_file(&device, 0, 1, bytes, 8) == 4 && !memcmp(bytes, FILE_BYTES + 1, 4));
+    SO(fuota_device_next(&device, &next) == FUOTA_DONE && next.state == FUOTA_IMAGE_CORRUPT);
+    SO(fuota_device_raise(&device) == FUOTA_DONE);
     for (i = 0; i < 8; i++)
         SO(fuota_device_wake(&device, 2000) == FUOTA_DONE);
     SO(fuota_device_wake(&device, 2000) == FUOTA_FULL);
@@ -202,34 +239,35 @@ static int server_answers(const uint8_t *image, size_t length) {
     fuota_plan plan = {.frag_size = 13, .parity = 1};
     fuota_down down = {.addr = 9};
     fuota_stage stage = {0};
-    uint8_t field = 7;
+    uint8_t field = 7, frame[FUOTA_MAX_FRAME];
     int i;
-    SO(fuota_server_new(&server, &plan, zeros, 47, image, length - 1, &field) == FUOTA_REFUSED && field == 7);
+    SO(fuota_server_new(&server, &plan, devices, 2, image, length - 1, &field) == FUOTA_REFUSED && field == 7);
     plan.frag_size = 0;
-    SO(fuota_server_new(&server, &plan, zeros, 47, image, length, &field) == FUOTA_RANGE);
+    SO(fuota_server_new(&server, &plan, devices, 2, image, length, &field) == FUOTA_RANGE);
     SO(field == FUOTA_FIELD_FRAG_SIZE);
     plan.frag_size = 13;
     plan.parity = 513;
     plan.index = 4;
     plan.has_group = true;
-    SO(fuota_server_new(&server, &plan, zeros, 47, image, length, &field) == FUOTA_RANGE && field == FUOTA_FIELD_PARITY);
+    SO(fuota_server_new(&server, &plan, devices, 2, image, length, &field) == FUOTA_RANGE && field == FUOTA_FIELD_PARITY);
     plan.parity = 1;
-    SO(fuota_server_new(&server, &plan, zeros, 47, image, length, &field) == FUOTA_RANGE && field == FUOTA_FIELD_INDEX);
+    SO(fuota_server_new(&server, &plan, devices, 2, image, length, &field) == FUOTA_RANGE && field == FUOTA_FIELD_INDEX);
     plan.index = 0;
-    SO(fuota_server_new(&server, &plan, zeros, 47, image, length, &field) == FUOTA_RANGE && field == FUOTA_FIELD_GROUP);
+    SO(fuota_server_new(&server, &plan, devices, 2, image, length, &field) == FUOTA_RANGE && field == FUOTA_FIELD_GROUP);
     plan.max = 3;
-    SO(fuota_server_new(&server, &plan, zeros, 47, image, length, &field) == FUOTA_RANGE);
+    SO(fuota_server_new(&server, &plan, devices, 2, image, length, &field) == FUOTA_RANGE);
     SO(field == FUOTA_FIELD_WINDOW);
     plan.has_window = true;
-    SO(fuota_server_new(&server, &plan, zeros, 15, image, length, &field) == FUOTA_RANGE);
+    SO(fuota_server_new(&server, &plan, devices, 0, image, length, &field) == FUOTA_RANGE);
     SO(field == FUOTA_FIELD_DEVICES);
     SO(server.at == NULL);
-    SO(fuota_server_new(&server, &plan, zeros, 47, image, length, &field) == FUOTA_DONE && server.at != NULL);
+    SO(fuota_server_new(&server, &plan, devices, 2, image, length, &field) == FUOTA_DONE && server.at != NULL);
     SO(fuota_server_ask(&server, 0, &down) == FUOTA_RANGE && fuota_server_ask(&server, 3, &down) == FUOTA_RANGE);
     SO(fuota_server_ask(&server, 2, &down) == FUOTA_DONE);
     SO(!down.is_group && down.addr == 9 && down.port == 203 && down.length == 1 && down.payload[0] == 0x01);
     SO(fuota_server_uplink(&server, 2, 203, zeros, 1, 0, &down) == FUOTA_REFUSED);
     SO(fuota_server_uplink(&server, 3, 203, zeros, 1, 0, &down) == FUOTA_RANGE);
+    SO(fuota_server_uplink(&server, 2, 203, zeros, 243, 0, &down) == FUOTA_RANGE);
     SO(fuota_server_ledger(&server, 2, &stage) == FUOTA_DONE && stage.stage == FUOTA_AT);
     SO(stage.request == FUOTA_REQUEST_VERSION && stage.bits == 0);
     SO(fuota_server_ledger(&server, 3, &stage) == FUOTA_RANGE);
@@ -238,13 +276,24 @@ static int server_answers(const uint8_t *image, size_t length) {
         SO(down.is_group && down.addr == 0 && (int)down.count == i && down.port == 201 && down.length == 16);
         SO(down.payload[0] == 0x08 && down.payload[1] == i + 1 && !memcmp(down.payload + 3, image + 13 * i, 13));
     }
+    SO(fuota_server_frame(&server, &down, frame, 28) == 0);
+    SO(fuota_server_frame(&server, &down, frame, sizeof frame) == 29 && frame[0] == 0x60 && frame[8] == 201);
+    down.port = 0;
+    SO(fuota_server_frame(&server, &down, frame, sizeof frame) == 0);
+    down.port = 201;
+    down.length = 243;
+    SO(fuota_server_frame(&server, &down, frame, sizeof frame) == 0);
+    down.length = 242;
+    SO(fuota_server_frame(&server, &down, frame, sizeof frame) == 255);
+    down.addr = 1;
+    SO(fuota_server_frame(&server, &down, frame, sizeof frame) == 0);
     SO(fuota_server_status_all(&server, &down) == FUOTA_DONE && down.count == 2 && down.length == 2);
     SO(fuota_server_status_all(&server, &down) == FUOTA_SPENT);
     SO(fuota_server_next_fragment(&server, &down) == FUOTA_SPENT);
     plan.has_group = plan.has_window = false;
-    SO(fuota_server_new(&server, &plan, zeros, 16, image, length, &field) == FUOTA_DONE); /* frees the first */
+    SO(fuota_server_new(&server, &plan, devices, 1, image, length, &field) == FUOTA_DONE); /* frees the first */
     for (i = 0; fuota_server_next_fragment(&server, &down) == FUOTA_DONE; i++)
-        SO(!down.is_group);
+        SO(!down.is_group && fuota_server_frame(&server, &down, frame, sizeof frame) == 0);
     SO(i == 5 && fuota_server_next_fragment(&server, &down) == FUOTA_NOTHING);
     fuota_server_free(&server);
     SO(server.at == NULL);
@@ -262,28 +311,28 @@ static int server_outlasts(const uint8_t *image, size_t length) {
     int i;
     memset(saved, 0xEE, sizeof saved);
     SO(fuota_server_save(&server, saved, sizeof saved) == 0 && saved[0] == 0xEE);
-    SO(fuota_server_new(&server, &plan, zeros, 16, image, length, &field) == FUOTA_DONE);
+    SO(fuota_server_new(&server, &plan, devices, 1, image, length, &field) == FUOTA_DONE);
     SO(fuota_server_save(&server, saved, 45) == 0 && saved[0] == 0xEE);
     for (i = 0; i < 6; i++) {
         count = fuota_server_save(&server, saved, sizeof saved);
         SO(count == 46 && saved[46] == 0xEE && saved[5] == i + 1);
         SO(i > 0 || !memcmp(saved, first, sizeof first));
-        SO(fuota_server_restore(&server, &plan, zeros, 16, image, length, saved, count, &field) == FUOTA_DONE);
+        SO(fuota_server_restore(&server, &plan, devices, 1, image, length, saved, count, &field) == FUOTA_DONE);
         SO(fuota_server_next_fragment(&server, &down) == (i < 5 ? FUOTA_DONE : FUOTA_NOTHING));
         SO(i == 5 || (down.payload[1] == i + 1 && down.payload[2] == 0));
     }
     for (k = 0; k < count; k++) {
         saved[k] ^= 1;
-        SO(fuota_server_restore(&server, &plan, zeros, 16, image, length, saved, count, &field) == FUOTA_CORRUPT);
+        SO(fuota_server_restore(&server, &plan, devices, 1, image, length, saved, count, &field) == FUOTA_CORRUPT);
         saved[k] ^= 1;
-        SO(fuota_server_restore(&server, &plan, zeros, 16, image, length, saved, k, &field) == FUOTA_CORRUPT);
+        SO(fuota_server_restore(&server, &plan, devices, 1, image, length, saved, k, &field) == FUOTA_CORRUPT);
         SO(server.at == NULL);
     }
-    SO(fuota_server_restore(&server, &plan, zeros, 32, image, length, saved, count, &field) == FUOTA_CORRUPT);
-    SO(fuota_server_restore(&server, &plan, zeros, 16, image, length - 1, saved, count, &field) == FUOTA_REFUSED);
+    SO(fuota_server_restore(&server, &plan, devices, 2, image, length, saved, count, &field) == FUOTA_CORRUPT);
+    SO(fuota_server_restore(&server, &plan, devices, 1, image, length - 1, saved, count, &field) == FUOTA_REFUSED);
     SO(field == 7);
     plan.parity = 513;
-    SO(fuota_server_restore(&server, &plan, zeros, 16, image, length, saved, count, &field) == FUOTA_RANGE);
+    SO(fuota_server_restore(&server, &plan, devices, 1, image, length, saved, count, &field) == FUOTA_RANGE);
     SO(field == FUOTA_FIELD_PARITY && server.at == NULL);
     return 0;
 }
@@ -302,7 +351,8 @@ static int decode_answers(void) {
     SO(out.at == 4 && out.why == FUOTA_WHY_SHORT);
     SO(fuota_decode(9, true, status, 4, text, sizeof text, &out) == FUOTA_REFUSED);
     SO(out.at == 0 && out.why == FUOTA_WHY_PORT);
-    SO(fuota_decode(201, true, zeros, 300, text, sizeof text, &out) == FUOTA_REFUSED && out.why == FUOTA_WHY_TOO_LONG);
+    SO(fuota_decode(201, true, zeros, 243, text, sizeof text, &out) == FUOTA_RANGE && out.why == FUOTA_WHY_PORT);
+    SO(fuota_decode(201, true, zeros, 242, text, sizeof text, &out) == FUOTA_REFUSED);
     return 0;
 }
 
@@ -314,6 +364,6 @@ int main(int argc, char **argv) {
         fclose(file);
     if (length != 52)
         return 2;
-    return without_objects() || receiver_answers() || device_answers() || device_outlasts()
+    return without_objects() || receiver_answers() || receiver_sizes() || device_answers() || device_outlasts()
         || server_answers(image, length) || server_outlasts(image, length) || decode_answers();
 }

@@ -10,8 +10,7 @@ static fuota_device device = FUOTA_DEVICE_NONE;
 
 /* A payload comes to the device at t. */
 static void deliver(const fuota_down *down, uint64_t t, uint64_t mark) {
-    const fuota_arrival arrival = {.t = t, .mark = mark, .word = 0x5EED, .addr = down->addr, .count = down->count,
-                                   .is_group = down->is_group};
+    const fuota_arrival arrival = fuota_arrival_of(down, t, 0x5EED, mark);
     fuota_device_deliver(&device, down->port, down->payload, down->length, &arrival);
 }
 
@@ -27,7 +26,7 @@ static void radio(const fuota_down *down, uint64_t t, uint64_t mark) {
 
 int main(int argc, char **argv) {
     static uint8_t image[262144], file[262144];
-    const uint8_t keys[16] = {0x2B, 0x7E, 0x15, 0x16};
+    const fuota_plan_device devices[1] = {{.key = {0x2B, 0x7E, 0x15, 0x16}}};
     const fuota_config config = {.hw = 1, .area = 262144, .rows = 64, .formats = 2, .sessions = 1, .groups = 1,
                                  .is_class_c = true, .key = {0x2B, 0x7E, 0x15, 0x16}};
     const fuota_plan plan = {.frag_size = 48, .parity = 64};
@@ -40,7 +39,7 @@ int main(int argc, char **argv) {
     uint64_t t = 0, sent = 0, heard = 0;
     if (source)
         fclose(source);
-    if (fuota_server_new(&server, &plan, keys, sizeof keys, image, length, &field) != FUOTA_DONE ||
+    if (fuota_server_new(&server, &plan, devices, 1, image, length, &field) != FUOTA_DONE ||
         fuota_device_new(&device, &config) != FUOTA_DONE)
         return 1;
     while (fuota_server_ledger(&server, 1, &stage) == FUOTA_DONE && stage.stage == FUOTA_AT && t < 100000) {

@@ -7,7 +7,8 @@
  * What C owes is written here, and nothing checks it:
  *   - a handle begins as { 0 }, as by its ..._NONE. It is not copied, and what is in it is neither read nor written by
  *     C;
- *   - one call at a time uses a handle, and all calls on one handle come from one thread;
+ *   - one call at a time uses a handle, and all calls on one handle come from one thread: that an object may go to
+ *     another thread, under a lock too, is not proved;
  *   - a pointer is to a value of its type, or to so many bytes as the length after it says, set before the call even
  *     where the call only writes there; nothing else reads or writes there during the call. It is not NULL, also at
  *     length 0;
@@ -16,6 +17,7 @@
  *     its size;
  *   - no call comes from a signal handler, or from the forked child of a process with threads;
  *   - there is stack for the call: docs/SAMPLES.md says how much.
+ * Numbers in structs are in the byte order of the machine; payloads, keys and saved bytes are bytes in their order.
  */
 #ifndef FUOTA_H
 #define FUOTA_H
@@ -27,6 +29,14 @@
 #ifdef __cplusplus
 extern "C" {
 #endif
+
+/* The version of this header. A library with another MAJOR, or MINOR while MAJOR is 0, is another interface. */
+#define FUOTA_VERSION_MAJOR 0
+#define FUOTA_VERSION_MINOR 1
+#define FUOTA_VERSION_PATCH 0
+
+/* That of the library: MAJOR * 65536 + MINOR * 256 + PATCH. */
+uint32_t fuota_version(void);
 
 /* What a call answers, where it says nothing else. After each answer but FUOTA_DONE what C handed in to be written to
  * is as it was, unless the call says otherwise. */
@@ -41,8 +51,12 @@ enum fuota_answer {
     FUOTA_DEAF = 7,      /* the device did not hear the payload */
     FUOTA_FULL = 8,      /* the device would hold more than 8 uplinks; nothing acted */
     FUOTA_SPENT = 9,     /* the frame counts of the group are spent; nothing changed */
-    FUOTA_CORRUPT = 10   /* the saved bytes are of no object that is so set up */
+    FUOTA_CORRUPT = 10,  /* the saved bytes are of no object that is so set up */
+    FUOTA_FOREIGN = 11   /* the bytes are no frame of the group that the device hears */
 };
+
+/* A value of enum fuota_answer. */
+typedef uint8_t fuota_result;
 
 /* ---- What a session shows ---- */
 
@@ -62,7 +76,7 @@ typedef struct fuota_view {
     uint8_t verdict;    /* a value of enum fuota_verdict */
 } fuota_view;
 
-/* ---- A receiver of one file at a time (TS004): session 0, 256 pieces of 48 bytes, 16 rows for coded fragments ---- */
+/* ---- A receiver of one file at a time (TS004), with session 0 alone ---- */
 
 typedef struct fuota_receiver {
     void *at;
@@ -70,25 +84,33 @@ typedef struct fuota_receiver {
 
 #define FUOTA_RECEIVER_NONE { 0 }
 
+/* What it has room for: pieces, bytes of a piece, and rows, so many lost pieces as coded fragments can make good.
+ * docs/SAMPLES.md says what memory each takes. */
+enum fuota_size {
+    FUOTA_SIZE_SMALL = 0,  /* 256 of 48 bytes, 16 rows */
+    FUOTA_SIZE_MIDDLE = 1, /* 1,024 of 48 bytes, 64 rows */
+    FUOTA_SIZE_LARGE = 2   /* 4,096 of 64 bytes, 256 rows */
+};
+
 /* What fuota_receiver_set_up answers where the handle has no receiver. */
 #define FUOTA_NO_RECEIVER 255
 
 /* The fields of FragSessionSetupReq. */
 typedef struct fuota_setup {
     uint32_t descriptor; /* any */
-    uint16_t nb_frag;    /* pieces, 1 to 256 */
-    uint8_t frag_size;   /* bytes of a piece, 1 to 48; where there are fewer than 16 pieces up to 239, as long as all of
-                          * them together have at most 768 */
+    uint16_t nb_frag;    /* pieces, from 1 */
+    uint8_t frag_size;   /* bytes of a piece, from 1; longer than the size says where there are fewer pieces, as long as
+                          * they and the rows have room */
     uint8_t index;       /* 0 */
-    uint8_t mask;        /* multicast groups that feed the session: bit 0 to 3 */
+    uint8_t mask;        /* multicast groups that feed the session: bit 0 to 3; the others say nothing */
     uint8_t algo;        /* 0 */
-    uint8_t delay;       /* BlockAckDelay, 0 to 7 */
+    uint8_t delay;       /* BlockAckDelay; any value, it is for who sends the answer */
     uint8_t padding;     /* zero bytes at the end of the last piece, fewer than frag_size */
 } fuota_setup;
 
-/* Frees what was there, and puts a new receiver, with no session, into the handle: FUOTA_DONE, or FUOTA_NO_MEMORY with
- * no receiver. */
-uint8_t fuota_receiver_new(fuota_receiver *handle);
+/* Frees what was there, and puts a new receiver of a size, a value of enum fuota_size, with no session, into the
+ * handle: FUOTA_DONE; FUOTA_RANGE at another size, or FUOTA_NO_MEMORY, and then there is no receiver. */
+fuota_result fuota_receiver_new(fuota_receiver *handle, uint8_t size);
 
 /* Frees the receiver, if there is one; the handle has none afterwards, and may be freed again. */
 void fuota_receiver_free(fuota_receiver *handle);
@@ -99,10 +121,10 @@ uint8_t fuota_receiver_set_up(fuota_receiver *handle, const fuota_setup *setup);
 
 /* A payload of port 201 that came by unicast: a DataFragment of session 0 is heard, and anything else passed over;
  * `mark` is the caller's own. FUOTA_DONE; FUOTA_RANGE at more than 242 bytes; FUOTA_NO_OBJECT. */
-uint8_t fuota_receiver_hear(fuota_receiver *handle, const uint8_t *payload, size_t length, uint64_t mark);
+fuota_result fuota_receiver_hear(fuota_receiver *handle, const uint8_t *payload, size_t length, uint64_t mark);
 
 /* What the session shows: FUOTA_DONE; FUOTA_NOTHING without a session; FUOTA_NO_OBJECT. */
-uint8_t fuota_receiver_view(fuota_receiver *handle, fuota_view *out);
+fuota_result fuota_receiver_view(fuota_receiver *handle, fuota_view *out);
 
 /* Copies bytes of the whole file, from the offset on, as many as there are and have room; their count, 0 also without a
  * receiver. */
@@ -131,7 +153,8 @@ typedef struct fuota_config {
     uint8_t groups;      /* multicast groups, 1 to 4 */
     bool has_descriptor;
     bool is_class_c;     /* it always hears unicast payloads; else in the two windows after its uplink */
-    uint8_t key[16];     /* GenAppKey of LoRaWAN 1.0, in the order of the standard's keys */
+    bool is_v11;         /* the key is AppKey of LoRaWAN 1.1; else GenAppKey of LoRaWAN 1.0 */
+    uint8_t key[16];     /* in the order of the standard's keys */
 } fuota_config;
 
 /* When and how a payload comes. */
@@ -153,7 +176,7 @@ typedef struct fuota_uplink {
 
 /* Frees what was there, and puts a new device into the handle, with all memory that it will ever need: FUOTA_DONE;
  * FUOTA_RANGE where a number of the configuration is out of range, or FUOTA_NO_MEMORY, and then there is no device. */
-uint8_t fuota_device_new(fuota_device *handle, const fuota_config *config);
+fuota_result fuota_device_new(fuota_device *handle, const fuota_config *config);
 
 /* Frees the device, if there is one; the handle has none afterwards, and may be freed again. */
 void fuota_device_free(fuota_device *handle);
@@ -162,20 +185,27 @@ void fuota_device_free(fuota_device *handle);
  * which is counted; FUOTA_RANGE at more than 242 bytes, and at a `t` out of range; FUOTA_NO_OBJECT. A reboot that is
  * due at `t` is carried out before the payload and after it, also where its commands do not act, but not at
  * FUOTA_RANGE. */
-uint8_t fuota_device_deliver(fuota_device *handle, uint8_t port, const uint8_t *payload, size_t length,
-                             const fuota_arrival *arrival);
+fuota_result fuota_device_deliver(fuota_device *handle, uint8_t port, const uint8_t *payload, size_t length,
+                                  const fuota_arrival *arrival);
+
+/* Bytes that its radio heard come at `t` ms of true time, with 32 random bits and the caller's own mark. A multicast
+ * frame of the group that is heard is answered as its payload by fuota_device_deliver; FUOTA_FOREIGN at other bytes,
+ * which are counted as deaf; FUOTA_RANGE at a `t` out of range; FUOTA_NO_OBJECT. A reboot that is due at `t` is
+ * carried out, but not at FUOTA_RANGE. */
+fuota_result fuota_device_radio(fuota_device *handle, const uint8_t *bytes, size_t length, uint64_t t, uint32_t word,
+                                uint64_t mark);
 
 /* The device wakes at `t` ms of true time and asks for the time: FUOTA_DONE; FUOTA_FULL where it holds 8 uplinks;
  * FUOTA_RANGE at a `t` out of range; FUOTA_NO_OBJECT. A reboot that is due at `t` is carried out before and after, but
  * not at FUOTA_RANGE. */
-uint8_t fuota_device_wake(fuota_device *handle, uint64_t t);
+fuota_result fuota_device_wake(fuota_device *handle, uint64_t t);
 
 /* Takes the oldest uplink that is held: FUOTA_DONE; FUOTA_NOTHING where none is; FUOTA_NO_OBJECT. */
-uint8_t fuota_device_take_uplink(fuota_device *handle, fuota_uplink *out);
+fuota_result fuota_device_take_uplink(fuota_device *handle, fuota_uplink *out);
 
 /* What the session of an index, 0 to 3, shows: FUOTA_DONE; FUOTA_NOTHING without a session; FUOTA_RANGE at another
  * index; FUOTA_NO_OBJECT. */
-uint8_t fuota_device_view(fuota_device *handle, uint8_t index, fuota_view *out);
+fuota_result fuota_device_view(fuota_device *handle, uint8_t index, fuota_view *out);
 
 /* Copies bytes of the whole file of the session of an index, from the offset on, as many as there are and have room;
  * their count, 0 also at another index and without a device. */
@@ -183,7 +213,38 @@ size_t fuota_device_file(fuota_device *handle, uint8_t index, size_t offset, uin
 
 /* The version of the firmware that runs, 0 at first, and another after a reboot (deliver, wake) into a received image:
  * FUOTA_DONE; FUOTA_NO_OBJECT. */
-uint8_t fuota_device_running(fuota_device *handle, uint32_t *version);
+fuota_result fuota_device_running(fuota_device *handle, uint32_t *version);
+
+/* Payloads that did not act, and fragments that no session heard. */
+typedef struct fuota_counts {
+    uint64_t deaf;    /* payloads that were not heard, and bytes that were no frame for it */
+    uint64_t refused; /* payloads that spell no commands */
+    uint64_t full;    /* payloads whose answers had no room */
+    uint64_t dropped; /* fragments that no session heard */
+} fuota_counts;
+
+/* Its counters: FUOTA_DONE; FUOTA_NO_OBJECT. */
+fuota_result fuota_device_counts(fuota_device *handle, fuota_counts *out);
+
+/* What was received to run next is to the device. */
+enum fuota_image {
+    FUOTA_IMAGE_NONE = 0,         /* there is none */
+    FUOTA_IMAGE_CORRUPT = 1,      /* no image file */
+    FUOTA_IMAGE_INCOMPATIBLE = 2, /* an image file for other hardware */
+    FUOTA_IMAGE_VALID = 3         /* it runs after the reboot */
+};
+
+typedef struct fuota_next {
+    uint32_t version; /* at FUOTA_IMAGE_VALID; else 0 */
+    uint8_t state;    /* a value of enum fuota_image */
+} fuota_next;
+
+/* FUOTA_DONE; FUOTA_NO_OBJECT. */
+fuota_result fuota_device_next(fuota_device *handle, fuota_next *out);
+
+/* Both image formats are known from now on, and what was received to run next is read again: FUOTA_DONE;
+ * FUOTA_NO_OBJECT. */
+fuota_result fuota_device_raise(fuota_device *handle);
 
 /* The bytes that a device saves. */
 #define FUOTA_SAVED_DEVICE 492
@@ -200,8 +261,8 @@ size_t fuota_device_firmware(fuota_device *handle, bool is_next, size_t offset, 
  * that ran and that was received to run next, each of length 0 where there was none: FUOTA_DONE. Its sessions lay in
  * memory, and are gone. There is no device after FUOTA_RANGE and FUOTA_NO_MEMORY, as of fuota_device_new, and after
  * FUOTA_CORRUPT, where no such device saved them. */
-uint8_t fuota_device_restore(fuota_device *handle, const fuota_config *config, const uint8_t *saved, size_t saved_length,
-                             const uint8_t *running, size_t running_length, const uint8_t *next, size_t next_length);
+fuota_result fuota_device_restore(fuota_device *handle, const fuota_config *config, const uint8_t *saved, size_t saved_length,
+                                  const uint8_t *running, size_t running_length, const uint8_t *next, size_t next_length);
 
 /* ---- The server of a campaign ---- */
 
@@ -210,6 +271,12 @@ typedef struct fuota_server {
 } fuota_server;
 
 #define FUOTA_SERVER_NONE { 0 }
+
+/* A device of a plan, by its key. */
+typedef struct fuota_plan_device {
+    uint8_t key[16]; /* GenAppKey of LoRaWAN 1.0, or AppKey of LoRaWAN 1.1 */
+    bool is_v11;     /* which */
+} fuota_plan_device;
 
 /* What a server is to do, but for its devices. */
 typedef struct fuota_plan {
@@ -251,6 +318,16 @@ typedef struct fuota_down {
     uint8_t payload[242]; /* in the order in which they are sent; the bytes after `length` are as they were */
 } fuota_down;
 
+/* The arrival of a payload of a server at a device, at `t` ms of true time, with 32 random bits and a mark. */
+static inline fuota_arrival fuota_arrival_of(const fuota_down *down, uint64_t t, uint32_t word, uint64_t mark) {
+    fuota_arrival arrival = {t, mark, word, 0, 0, down->is_group};
+    if (down->is_group) {
+        arrival.addr = down->addr;
+        arrival.count = down->count;
+    }
+    return arrival;
+}
+
 /* Where a device stands. */
 enum fuota_stage_kind {
     FUOTA_AT = 0,      /* the answer to the request is what moves it on */
@@ -277,32 +354,40 @@ typedef struct fuota_stage {
 
 /* Frees what was there, and puts a server at the start of a campaign into the handle: FUOTA_DONE. There is no server
  * after FUOTA_REFUSED, where the image is no image file; FUOTA_RANGE, where a field of the plan is wrong, with the
- * first of them, as enum fuota_field says, in *field; and FUOTA_NO_MEMORY. `keys` has the GenAppKeys of the 1 to 64
- * devices in turn, 16 bytes each; a rest of fewer is left out. */
-uint8_t fuota_server_new(fuota_server *handle, const fuota_plan *plan, const uint8_t *keys, size_t keys_length,
-                         const uint8_t *image, size_t image_length, uint8_t *field);
+ * first of them, as enum fuota_field says, in *field; and FUOTA_NO_MEMORY. The devices, 1 to 64, are numbered from 1. */
+fuota_result fuota_server_new(fuota_server *handle, const fuota_plan *plan, const fuota_plan_device *devices,
+                              size_t devices_length, const uint8_t *image, size_t image_length, uint8_t *field);
 
 /* Frees the server, if there is one; the handle has none afterwards, and may be freed again. */
 void fuota_server_free(fuota_server *handle);
 
 /* The next fragment to all devices: FUOTA_DONE; FUOTA_NOTHING where all were sent; FUOTA_SPENT; FUOTA_NO_OBJECT. */
-uint8_t fuota_server_next_fragment(fuota_server *handle, fuota_down *out);
+fuota_result fuota_server_next_fragment(fuota_server *handle, fuota_down *out);
 
 /* FragSessionStatusReq to all devices, answered by those that miss a fragment: FUOTA_DONE; FUOTA_SPENT;
  * FUOTA_NO_OBJECT. */
-uint8_t fuota_server_status_all(fuota_server *handle, fuota_down *out);
+fuota_result fuota_server_status_all(fuota_server *handle, fuota_down *out);
+
+/* The most bytes of a frame. */
+#define FUOTA_MAX_FRAME 255
+
+/* A payload to the group as its multicast frame of LoRaWAN 1.0.x, at the front of `into`; their count, and 0 where the
+ * payload is not to the plan's group, has more than 242 bytes or is for port 0, where the frame has no room, or without
+ * a server. A network server that is given payloads makes the frames itself. */
+size_t fuota_server_frame(fuota_server *handle, const fuota_down *down, uint8_t *into, size_t room);
 
 /* What the server asks of a device now, by unicast; it is sent again when no answer comes: FUOTA_DONE; FUOTA_NOTHING
  * where it is updated or refused; FUOTA_RANGE where the plan has no device of this number, 1 to 64; FUOTA_NO_OBJECT. */
-uint8_t fuota_server_ask(fuota_server *handle, uint8_t dev, fuota_down *out);
+fuota_result fuota_server_ask(fuota_server *handle, uint8_t dev, fuota_down *out);
 
 /* An uplink of a device came on a port, at `t` ms of GPS time, and moves its stage: FUOTA_DONE, with an answer to send
- * to it; FUOTA_NOTHING, where none is due; FUOTA_REFUSED and FUOTA_RANGE, and then nothing changes; FUOTA_NO_OBJECT. */
-uint8_t fuota_server_uplink(fuota_server *handle, uint8_t dev, uint8_t port, const uint8_t *payload, size_t length,
-                            uint64_t t, fuota_down *out);
+ * to it; FUOTA_NOTHING, where none is due; FUOTA_REFUSED, where the payload spells no commands; FUOTA_RANGE, where the
+ * plan has no such device or the payload more than 242 bytes, and then nothing changes; FUOTA_NO_OBJECT. */
+fuota_result fuota_server_uplink(fuota_server *handle, uint8_t dev, uint8_t port, const uint8_t *payload, size_t length,
+                                 uint64_t t, fuota_down *out);
 
 /* Where a device stands: FUOTA_DONE; FUOTA_RANGE where the plan has no such device; FUOTA_NO_OBJECT. */
-uint8_t fuota_server_ledger(fuota_server *handle, uint8_t dev, fuota_stage *out);
+fuota_result fuota_server_ledger(fuota_server *handle, uint8_t dev, fuota_stage *out);
 
 /* The most bytes that a server saves: 44, and two for each of 64 devices. */
 #define FUOTA_SAVED_SERVER 172
@@ -311,11 +396,11 @@ uint8_t fuota_server_ledger(fuota_server *handle, uint8_t dev, fuota_stage *out)
  * room, or without a server. They are saved before the payload of a call goes out. There is no key among them. */
 size_t fuota_server_save(fuota_server *handle, uint8_t *into, size_t room);
 
-/* Frees what was there, and puts the server of this plan, keys and image that saved these bytes into the handle: as
+/* Frees what was there, and puts the server of this plan, devices and image that saved these bytes into the handle: as
  * fuota_server_new puts one at its start, and answered as there; FUOTA_CORRUPT where no such server saved them. */
-uint8_t fuota_server_restore(fuota_server *handle, const fuota_plan *plan, const uint8_t *keys, size_t keys_length,
-                             const uint8_t *image, size_t image_length, const uint8_t *saved, size_t saved_length,
-                             uint8_t *field);
+fuota_result fuota_server_restore(fuota_server *handle, const fuota_plan *plan, const fuota_plan_device *devices,
+                                  size_t devices_length, const uint8_t *image, size_t image_length,
+                                  const uint8_t *saved, size_t saved_length, uint8_t *field);
 
 /* ---- Payloads as text ---- */
 
@@ -323,7 +408,7 @@ enum fuota_why {
     FUOTA_WHY_PORT = 0,    /* the port carries no package */
     FUOTA_WHY_UNKNOWN = 1, /* no command has this identifier */
     FUOTA_WHY_SHORT = 2,   /* the payload ends within a command */
-    FUOTA_WHY_TOO_LONG = 3 /* it has more than 242 bytes */
+    FUOTA_WHY_TOO_LONG = 3 /* it has more than 242 bytes, which is FUOTA_RANGE in C, and so never told */
 };
 
 /* A field is written at the answers that it names, and else as it was. */
@@ -335,9 +420,9 @@ typedef struct fuota_decoded {
 
 /* The commands of a payload of port 200 to 203, each on a line, at the front of `text`, with no 0 after it:
  * FUOTA_DONE, and out->length bytes of text; FUOTA_REFUSED; FUOTA_NO_ROOM, where the text has more than `room` bytes,
- * and its length is in out->length; FUOTA_NO_MEMORY. `up` says which way the payload goes: from a device, or to one. */
-uint8_t fuota_decode(uint8_t port, bool up, const uint8_t *payload, size_t length, uint8_t *text, size_t room,
-                     fuota_decoded *out);
+ * and its length is in out->length; FUOTA_RANGE at more than 242 bytes of payload; FUOTA_NO_MEMORY. `up` says which way the payload goes: from a device, or to one. */
+fuota_result fuota_decode(uint8_t port, bool up, const uint8_t *payload, size_t length, uint8_t *text, size_t room,
+                          fuota_decoded *out);
 
 #ifdef __cplusplus
 }

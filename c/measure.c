@@ -26,7 +26,7 @@ static fuota_setup setup = {.frag_size = 48};
 static const fuota_config config = {.hw = 1, .area = 262144, .rows = 256, .formats = 2, .sessions = 4, .groups = 4,
                                     .is_class_c = true};
 static const fuota_plan plan = {.frag_size = 64, .parity = 512}, small_plan = {.frag_size = 48, .parity = 64};
-static const uint8_t keys[16];
+static const fuota_plan_device devices[1];
 static fuota_arrival arrival = {.t = 1000};
 static fuota_down down;
 static fuota_uplink up;
@@ -35,12 +35,16 @@ static fuota_view view;
 static fuota_decoded decoded;
 static uint8_t text[1000], saved[FUOTA_SAVED_SERVER], kept[FUOTA_SAVED_DEVICE], answer, field;
 static uint32_t version;
+static uint8_t frame[FUOTA_MAX_FRAME];
+static size_t frame_length;
+static fuota_counts counts;
+static fuota_next next;
 static int most = -1;
 
 /* ---- The calls, each over the values above ---- */
 
 static void nothing(void) {}
-static void receiver_new(void) { answer = fuota_receiver_new(&receiver); }
+static void receiver_new(void) { answer = fuota_receiver_new(&receiver, FUOTA_SIZE_SMALL); }
 static void receiver_free(void) { fuota_receiver_free(&receiver); }
 static void receiver_set_up(void) { answer = fuota_receiver_set_up(&receiver, &setup); }
 static void receiver_hear(void) { answer = fuota_receiver_hear(&receiver, down.payload, down.length, 1); }
@@ -52,6 +56,10 @@ static void device_free(void) { fuota_device_free(&device); }
 static void device_deliver(void) {
     answer = fuota_device_deliver(&device, down.port, down.payload, down.length, &arrival);
 }
+static void device_radio(void) { answer = fuota_device_radio(&device, frame, frame_length, 1000, 1, 1); }
+static void device_counts(void) { answer = fuota_device_counts(&device, &counts); }
+static void device_next(void) { answer = fuota_device_next(&device, &next); }
+static void device_raise(void) { answer = fuota_device_raise(&device); }
 static void device_wake(void) { answer = fuota_device_wake(&device, 1000); }
 static void device_take_uplink(void) { answer = fuota_device_take_uplink(&device, &up); }
 static void device_view(void) { answer = fuota_device_view(&device, 0, &view); }
@@ -63,14 +71,15 @@ static void device_restore(void) {
     answer = fuota_device_restore(&device, &config, kept, kept_length, kept, 0, file, file_length);
 }
 static void server_new(void) {
-    answer = fuota_server_new(&server, &plan, keys, sizeof keys, image, image_length, &field);
+    answer = fuota_server_new(&server, &plan, devices, 1, image, image_length, &field);
 }
 static void small_server_new(void) {
-    answer = fuota_server_new(&server, &small_plan, keys, sizeof keys, small, small_length, &field);
+    answer = fuota_server_new(&server, &small_plan, devices, 1, small, small_length, &field);
 }
 static void server_free(void) { fuota_server_free(&server); }
 static void server_next_fragment(void) { answer = fuota_server_next_fragment(&server, &down); }
 static void server_status_all(void) { answer = fuota_server_status_all(&server, &down); }
+static void server_frame(void) { frame_length = fuota_server_frame(&server, &down, frame, sizeof frame); }
 static void server_ask(void) { answer = fuota_server_ask(&server, 1, &down); }
 static void server_uplink(void) {
     answer = fuota_server_uplink(&server, 1, up.port, up.payload, up.length, 1000, &down);
@@ -78,8 +87,9 @@ static void server_uplink(void) {
 static void server_ledger(void) { answer = fuota_server_ledger(&server, 1, &stage); }
 static void server_save(void) { saved_length = fuota_server_save(&server, saved, sizeof saved); }
 static void server_restore(void) {
-    answer = fuota_server_restore(&server, &plan, keys, sizeof keys, image, image_length, saved, saved_length, &field);
+    answer = fuota_server_restore(&server, &plan, devices, 1, image, image_length, saved, saved_length, &field);
 }
+static void library_version(void) { version = fuota_version(); }
 static void decode(void) { answer = fuota_decode(up.port, true, up.payload, up.length, text, sizeof text, &decoded); }
 
 typedef struct call {
@@ -93,14 +103,15 @@ static call calls[] = {
     {receiver_new, "receiver_new", 0}, {receiver_free, "receiver_free", 0}, {receiver_set_up, "receiver_set_up", 0},
     {receiver_hear, "receiver_hear", 0}, {receiver_view, "receiver_view", 0}, {receiver_file, "receiver_file", 0},
     {receiver_status, "receiver_status", 0}, {device_new, "device_new", 0}, {device_free, "device_free", 0},
-    {device_deliver, "device_deliver", 0}, {device_wake, "device_wake", 0},
+    {device_deliver, "device_deliver", 0}, {device_radio, "device_radio", 0}, {device_wake, "device_wake", 0},
+    {device_counts, "device_counts", 0}, {device_next, "device_next", 0}, {device_raise, "device_raise", 0},
     {device_take_uplink, "device_take_uplink", 0},
     {device_view, "device_view", 0}, {device_file, "device_file", 0}, {device_running, "device_running", 0},
     {device_save, "device_save", 0}, {device_firmware, "device_firmware", 0}, {device_restore, "device_restore", 0},
     {server_new, "server_new", 0}, {server_free, "server_free", 0}, {server_next_fragment, "server_next_fragment", 0},
     {server_status_all, "server_status_all", 0}, {server_ask, "server_ask", 0}, {server_uplink, "server_uplink", 0},
     {server_ledger, "server_ledger", 0}, {server_save, "server_save", 0}, {server_restore, "server_restore", 0},
-    {decode, "decode", 0}};
+    {server_frame, "server_frame", 0}, {library_version, "version", 0}, {decode, "decode", 0}};
 
 enum { CALLS = sizeof calls / sizeof calls[0] };
 

@@ -12,7 +12,7 @@ int main(void) {
     fuota_view view = {0};
     uint8_t file[8];
     size_t count, i;
-    if (fuota_receiver_new(&receiver) != FUOTA_DONE || fuota_receiver_set_up(&receiver, &setup) != 0)
+    if (fuota_receiver_new(&receiver, FUOTA_SIZE_SMALL) != FUOTA_DONE || fuota_receiver_set_up(&receiver, &setup) != 0)
         return 1;
     for (i = 0; i < 3 && view.verdict == FUOTA_RECEIVING; i++) {
         fuota_receiver_hear(&receiver, payloads[i], sizeof payloads[i], i + 1);

@@ -6,7 +6,7 @@ import ctypes
 import sys
 from ctypes import POINTER, Structure, byref, c_char_p, c_size_t, c_uint8, c_uint16, c_uint32, c_uint64, c_void_p
 
-DONE, COMPLETE = 0, 1
+DONE, COMPLETE, SMALL = 0, 1, 0
 
 
 class Handle(Structure):
@@ -39,7 +39,7 @@ class Receiver:
         self.view = self.call("view", c_uint8, POINTER(View))
         self.copy = self.call("file", c_size_t, c_size_t, c_void_p, c_size_t)
         self.free = self.call("free", None)
-        if self.call("new", c_uint8)() != DONE:
+        if self.call("new", c_uint8, c_uint8)(SMALL) != DONE:
             raise MemoryError
 
     def call(self, name, result, *kinds):

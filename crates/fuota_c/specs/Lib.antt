@@ -5,3 +5,4 @@ pub mod Decoded
 pub mod Device
 pub mod Saving
 pub mod Telling
+pub mod Version

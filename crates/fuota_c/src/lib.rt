@@ -1,6 +1,6 @@
 //! For C: a receiver of one file at a time, a device of all four packages, and the text of a payload (TS003 to TS006,
 //! 1.0.0). Each call may be made with any argument that its types allow. It does to the object of its handle what
-//! the call of `sample_receiver`, `device_core` or `sample_decoder` does, and answers what that answers, by the
+//! the call of `frag_session`, `device_core` or `sample_decoder` does, and answers what that answers, by the
 //! numbers of the header. What C owes beyond the types stands in the header, `c/fuota.h`.
 #![tactic(auto)]
 
@@ -12,4 +12,6 @@ mod receiver;
 mod receiver_handle;
 mod saving;
 mod shown;
+mod sized_receiver;
 mod telling;
+mod version;

@@ -1,23 +1,22 @@
 //! A receiver of one file at a time.
 
-ghost use Rattle.std.specs.Prelude.{◌≡◌, ◌≤◌, None, IfSome, Option, option_map};
+ghost use Rattle.std.specs.Prelude.{◌≡◌, ◌<◌, ◌≤◌, None, IfSome, IsNone, IfOk, Option, option_map};
 ghost use Rattle.frag_session.specs.Session.{Session, view_of, status_of};
 ghost use Rattle.frag_session.specs.HeldView.{seen};
 ghost use Rattle.frag_session.specs.declared.answers.Via.TheVariants.{Unicast};
-ghost use Rattle.sample_receiver.specs.HeldReceiver.{SetsUp, ReceiverStands};
 ghost use Rattle.c_base.specs.Answer.{no_object, no_receiver};
 ghost use Rattle.c_base.specs.Calls.{Does, Tells};
 ghost use Rattle.fuota_c.specs.Shown.{IsShown};
-ghost use Rattle.fuota_c.specs.Receiver.{IsNewReceiver, HearsOrNot, IsFileCopy, IsStatus, answer_bytes, setup_of};
+ghost use Rattle.fuota_c.specs.Receiver.{IsNewReceiver, SetsUp, HearsOrNot, IsFileCopy, IsStatus, ReceiverStands, answer_bytes, setup_of, size_of, size_number};
 
 use crate::receiver_handle::ReceiverHandle;
 use crate::shown::{ViewFields, file_in, show};
+use crate::sized_receiver::{Receiver, Size, hear, new_receiver, set_up, status, view};
 use c_base::answer::{DONE, NO_MEMORY, NO_OBJECT, NO_RECEIVER, RANGE};
 use c_base::{copy_part, put_whole};
 use cast_wire::{Cmd, FRAGMENT_PORT};
-use frag_session::{SetupReq, Via};
+use frag_session::SetupReq;
 use package_grammar::{Command, spelled};
-use sample_receiver::{Receiver, hear, receiver, set_up};
 use std::alloc::Global;
 use wire_base::{Direction, MAX_PAYLOAD, Payload};
 
@@ -35,14 +34,18 @@ pub struct SetupFields {
     pub padding: u8,
 }
 
-/// Frees what was there, and puts a new receiver, with no session, into the handle: done, or no memory and no
-/// receiver.
+/// Frees what was there, and puts a new receiver of a size, with no session, into the handle: done; out of range at a size
+/// above 2, or no memory, and then there is no receiver. Size 0 takes 256 pieces of 48 bytes and keeps 16 rows, 1 takes 1,024
+/// of 48 and keeps 64, 2 takes 4,096 of 64 and keeps 256.
 #[unsafe(no_mangle)]
-pub extern "C" fn fuota_receiver_new(handle: &mut ReceiverHandle, alloc: Global) -> u8
-    ensures { IsNewReceiver handle.new.held result }
+pub extern "C" fn fuota_receiver_new(handle: &mut ReceiverHandle, alloc: Global, size: u8) -> u8
+    ensures { IsNewReceiver size handle.new.held result }
 {
     fuota_receiver_free(handle, alloc);
-    match made(alloc) {
+    let Some(size) = size_of(size) else {
+        return RANGE;
+    };
+    match made(alloc, size) {
         None => NO_MEMORY,
         Some(receiver) => {
             *handle = ReceiverHandle::of(receiver);
@@ -51,10 +54,23 @@ pub extern "C" fn fuota_receiver_new(handle: &mut ReceiverHandle, alloc: Global)
     }
 }
 
-fn made(alloc: Global) -> Option<Box<Receiver>>
-    ensures { IfSome result (λ b. ReceiverStands b.value None) }
+/// The size with a number.
+fn size_of(number: u8) -> Option<Size>
+    ensures some { IfSome result (λ size. number ≡ size_number size) }
+    ensures none { IsNone result → 2 < number }
 {
-    match receiver(alloc) {
+    match number {
+        0 => Some(Size::Small),
+        1 => Some(Size::Middle),
+        2 => Some(Size::Large),
+        _ => None,
+    }
+}
+
+fn made(alloc: Global, size: Size) -> Option<Box<Receiver>>
+    ensures { IfSome result (λ b. ReceiverStands size b.value None) }
+{
+    match new_receiver(alloc, size) {
         Err(_) => None,
         Ok(receiver) => match Box::new(alloc, receiver) {
             Err(_) => None,
@@ -148,14 +164,14 @@ pub extern "C" fn fuota_receiver_view(
 ) -> u8
     ensures same { handle.new.held ≡ handle.old.held }
     ensures view { Tells handle.old.held
-        (λ x. (s : Option Session) → ReceiverStands x s
+        (λ x. (s : Option Session) → ReceiverStands (size_of x) x s
         → IsShown (view_of s) out.old out.new result)
         ((result ≡ no_object) × (out.new ≡ out.old)) }
 {
     match handle.take(alloc) {
         None => NO_OBJECT,
         Some(receiver) => {
-            let answer = show(receiver.view(), out);
+            let answer = show(view(&receiver), out);
             *handle = ReceiverHandle::of(receiver);
             answer
         }
@@ -172,14 +188,14 @@ pub extern "C" fn fuota_receiver_file(
 ) -> usize
     ensures same { handle.new.held ≡ handle.old.held }
     ensures file { Tells handle.old.held
-        (λ x. (s : Option Session) → ReceiverStands x s
+        (λ x. (s : Option Session) → ReceiverStands (size_of x) x s
         → IsFileCopy (view_of s) offset into.old into.new result)
         ((result ≡ 0) × (into.new ≡ into.old)) }
 {
     match handle.take(alloc) {
         None => 0,
         Some(receiver) => {
-            let count = copy_part(file_in(receiver.view()), offset, into);
+            let count = copy_part(file_in(view(&receiver)), offset, into);
             *handle = ReceiverHandle::of(receiver);
             count
         }
@@ -197,7 +213,7 @@ pub extern "C" fn fuota_receiver_status(
 ) -> usize
     ensures same { handle.new.held ≡ handle.old.held }
     ensures status { Tells handle.old.held
-        (λ x. (s : Option Session) → ReceiverStands x s
+        (λ x. (s : Option Session) → ReceiverStands (size_of x) x s
         → IsStatus s all answer.old answer.new result)
         ((result ≡ 0) × (answer.new ≡ answer.old)) }
 {
@@ -212,10 +228,10 @@ pub extern "C" fn fuota_receiver_status(
 }
 
 fn status_bytes(receiver: &Receiver, all: bool) -> Payload
-    ensures { (s : Option Session) → ReceiverStands receiver.now s
+    ensures { (s : Option Session) → ReceiverStands (size_of receiver.now) receiver.now s
         → result ≡ answer_bytes (status_of s Unicast all) }
 {
-    match receiver.status(Via::Unicast, all) {
+    match status(receiver, all) {
         None => Payload::new(),
         Some(status) => {
             let command = Command::Cast(Cmd::FragSessionStatusAns {

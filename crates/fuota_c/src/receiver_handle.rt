@@ -1,10 +1,10 @@
 //! A receiver as C holds it.
 
 ghost use Rattle.std.specs.Prelude.{◌≡◌, Option, None, Some, option_map};
-ghost use Rattle.frag_session.specs.Held.{HeldSlot};
+ghost use Rattle.fuota_c.specs.declared.sized_receiver.Receiver.{Receiver as Held};
 
+use crate::sized_receiver::Receiver;
 use c_base::Handle;
-use sample_receiver::Receiver;
 use std::alloc::Global;
 use std::marker::Model;
 use std::mem::replace;
@@ -14,7 +14,7 @@ use std::mem::replace;
 pub struct ReceiverHandle {
     at: *mut u8,
     alloc: Global,
-    ghost held: { Option HeldSlot },
+    ghost held: { Option Held },
 }
 
 impl Model for ReceiverHandle {
