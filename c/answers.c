@@ -99,6 +99,8 @@ static int receiver_answers(void) {
     SO(fuota_receiver_file(&receiver, 0, bytes, 8) == 5 && !memcmp(bytes, FILE_BYTES, 5) && bytes[5] == 0xEE);
     SO(fuota_receiver_file(&receiver, 3, bytes, 1) == 1 && bytes[0] == 0x44 && bytes[1] == 0x22);
     SO(fuota_receiver_file(&receiver, (size_t)-1, bytes, 8) == 0);
+    SO(fuota_receiver_file(&receiver, 0, NULL, 0) == 0 && fuota_receiver_status(&receiver, true, NULL, 0) == 0);
+    SO(fuota_receiver_hear(&receiver, NULL, 0, 4) == FUOTA_DONE);
     SO(fuota_receiver_new(&receiver, 0) == FUOTA_DONE); /* frees the first */
     SO(fuota_receiver_view(&receiver, &view) == FUOTA_NOTHING && view.file_length == 5);
     fuota_receiver_free(&receiver);
@@ -212,7 +214,7 @@ static int device_outlasts(void) {
     SO(fuota_device_save(&device, saved, sizeof saved - 1) == 0 && saved[0] == 0xEE);
     SO(fuota_device_save(&device, saved, sizeof saved) == sizeof saved);
     SO(!memcmp(saved, "FUSD\1\4\3\2\1\0", 10) && saved[10] == 1 && saved[186] == 1 && saved[203] == 1);
-    SO(fuota_device_restore(&device, &config, saved, sizeof saved, none, 0, next, 5) == FUOTA_DONE);
+    SO(fuota_device_restore(&device, &config, saved, sizeof saved, NULL, 0, next, 5) == FUOTA_DONE);
     SO(fuota_device_view(&device, 0, &view) == FUOTA_NOTHING);
     SO(fuota_device_firmware(&device, true, 0, next, 8) == 5 && !memcmp(next, FILE_BYTES, 5));
     SO(fuota_device_take_uplink(&device, &up) == FUOTA_DONE && up.due == 1000 && up.port == 201 && up.length == 2);
@@ -249,11 +251,14 @@ static int server_answers(const uint8_t *image, size_t length) {
     plan.parity = 513;
     plan.index = 4;
     plan.has_group = true;
-    SO(fuota_server_new(&server, &plan, devices, 2, image, length, &field) == FUOTA_RANGE && field == FUOTA_FIELD_PARITY);
+    SO(fuota_server_new(&server, &plan, devices, 2, image, length, &field) == FUOTA_RANGE);
+    SO(field == FUOTA_FIELD_PARITY);
     plan.parity = 1;
-    SO(fuota_server_new(&server, &plan, devices, 2, image, length, &field) == FUOTA_RANGE && field == FUOTA_FIELD_INDEX);
+    SO(fuota_server_new(&server, &plan, devices, 2, image, length, &field) == FUOTA_RANGE);
+    SO(field == FUOTA_FIELD_INDEX);
     plan.index = 0;
-    SO(fuota_server_new(&server, &plan, devices, 2, image, length, &field) == FUOTA_RANGE && field == FUOTA_FIELD_GROUP);
+    SO(fuota_server_new(&server, &plan, devices, 2, image, length, &field) == FUOTA_RANGE);
+    SO(field == FUOTA_FIELD_GROUP);
     plan.max = 3;
     SO(fuota_server_new(&server, &plan, devices, 2, image, length, &field) == FUOTA_RANGE);
     SO(field == FUOTA_FIELD_WINDOW);
@@ -349,6 +354,7 @@ static int decode_answers(void) {
     SO(text[out.length - 1] == '\n' && text[out.length] == 0xEE);
     SO(fuota_decode(201, true, status, 4, text, sizeof text, &out) == FUOTA_REFUSED);
     SO(out.at == 4 && out.why == FUOTA_WHY_SHORT);
+    SO(fuota_decode(201, true, NULL, 0, NULL, 0, &out) == FUOTA_DONE && out.length == 0);
     SO(fuota_decode(9, true, status, 4, text, sizeof text, &out) == FUOTA_REFUSED);
     SO(out.at == 0 && out.why == FUOTA_WHY_PORT);
     SO(fuota_decode(201, true, zeros, 243, text, sizeof text, &out) == FUOTA_RANGE && out.why == FUOTA_WHY_PORT);

@@ -9,9 +9,9 @@
  *     C;
  *   - one call at a time uses a handle, and all calls on one handle come from one thread: that an object may go to
  *     another thread, under a lock too, is not proved;
- *   - a pointer is to a value of its type, or to so many bytes as the length after it says, set before the call even
- *     where the call only writes there; nothing else reads or writes there during the call. It is not NULL, also at
- *     length 0;
+ *   - a pointer is to a value of its type, or to so many as the number after it says, set before the call even
+ *     where the call only writes there; nothing else reads or writes there during the call. It is not NULL; but
+ *     in C and C++, by the functions at the end of this header, one to bytes may be NULL where their number is 0;
  *   - a bool is 0 or 1;
  *   - malloc, realloc and free come from one allocator, and align a block to each power of two up to 16 that divides
  *     its size;
@@ -126,12 +126,12 @@ fuota_result fuota_receiver_hear(fuota_receiver *handle, const uint8_t *payload,
 /* What the session shows: FUOTA_DONE; FUOTA_NOTHING without a session; FUOTA_NO_OBJECT. */
 fuota_result fuota_receiver_view(fuota_receiver *handle, fuota_view *out);
 
-/* Copies bytes of the whole file, from the offset on, as many as there are and have room; their count, 0 also without a
- * receiver. */
+/* Copies bytes of the whole file, from the offset on, as many as there are and have room; their count, 0 also
+ * without a receiver. */
 size_t fuota_receiver_file(fuota_receiver *handle, size_t offset, uint8_t *into, size_t room);
 
-/* FragSessionStatusAns, as the 5 bytes to send, at the front of `answer`; their count, and 0 where none is to be sent,
- * where they have no room, or without a receiver. `all` is the request's Participants bit. */
+/* FragSessionStatusAns, as the 5 bytes to send, at the front of `answer`; their count, and 0 where none is to be
+ * sent, where they have no room, or without a receiver. `all` is the request's Participants bit. */
 size_t fuota_receiver_status(fuota_receiver *handle, bool all, uint8_t *answer, size_t room);
 
 /* ---- A device of all four packages ---- */
@@ -192,12 +192,12 @@ fuota_result fuota_device_deliver(fuota_device *handle, uint8_t port, const uint
  * frame of the group that is heard is answered as its payload by fuota_device_deliver; FUOTA_FOREIGN at other bytes,
  * which are counted as deaf; FUOTA_RANGE at a `t` out of range; FUOTA_NO_OBJECT. A reboot that is due at `t` is
  * carried out, but not at FUOTA_RANGE. */
-fuota_result fuota_device_radio(fuota_device *handle, const uint8_t *bytes, size_t length, uint64_t t, uint32_t word,
-                                uint64_t mark);
+fuota_result fuota_device_radio(fuota_device *handle, const uint8_t *bytes, size_t length, uint64_t t,
+                                uint32_t word, uint64_t mark);
 
 /* The device wakes at `t` ms of true time and asks for the time: FUOTA_DONE; FUOTA_FULL where it holds 8 uplinks;
- * FUOTA_RANGE at a `t` out of range; FUOTA_NO_OBJECT. A reboot that is due at `t` is carried out before and after, but
- * not at FUOTA_RANGE. */
+ * FUOTA_RANGE at a `t` out of range; FUOTA_NO_OBJECT. A reboot that is due at `t` is carried out before and after,
+ * but not at FUOTA_RANGE. */
 fuota_result fuota_device_wake(fuota_device *handle, uint64_t t);
 
 /* Takes the oldest uplink that is held: FUOTA_DONE; FUOTA_NOTHING where none is; FUOTA_NO_OBJECT. */
@@ -211,8 +211,8 @@ fuota_result fuota_device_view(fuota_device *handle, uint8_t index, fuota_view *
  * their count, 0 also at another index and without a device. */
 size_t fuota_device_file(fuota_device *handle, uint8_t index, size_t offset, uint8_t *into, size_t room);
 
-/* The version of the firmware that runs, 0 at first, and another after a reboot (deliver, wake) into a received image:
- * FUOTA_DONE; FUOTA_NO_OBJECT. */
+/* The version of the firmware that runs, 0 at first, and another after a reboot (deliver, wake) into a received
+ * image: FUOTA_DONE; FUOTA_NO_OBJECT. */
 fuota_result fuota_device_running(fuota_device *handle, uint32_t *version);
 
 /* Payloads that did not act, and fragments that no session heard. */
@@ -249,20 +249,22 @@ fuota_result fuota_device_raise(fuota_device *handle);
 /* The bytes that a device saves. */
 #define FUOTA_SAVED_DEVICE 492
 
-/* What the device knows, as bytes for fuota_device_restore, at the front of `into`; their count, and 0 where they have no
- * room, or without a device. They are saved after a call, before its uplinks go out. They hold the keys of its groups. */
+/* What the device knows, as bytes for fuota_device_restore, at the front of `into`; their count, and 0 where they
+ * have no room, or without a device. They are saved after a call, before its uplinks go out. They hold the keys of
+ * its groups. */
 size_t fuota_device_save(fuota_device *handle, uint8_t *into, size_t room);
 
-/* Copies bytes of the image file that was received to run next, or else of the one that runs, from the offset on, as many as
- * there are and have room; their count, 0 also where there is no file and without a device. */
+/* Copies bytes of the image file that was received to run next, or else of the one that runs, from the offset on,
+ * as many as there are and have room; their count, 0 also where there is no file and without a device. */
 size_t fuota_device_firmware(fuota_device *handle, bool is_next, size_t offset, uint8_t *into, size_t room);
 
-/* Frees what was there, and puts the device of this configuration that saved these bytes into the handle, with the files
- * that ran and that was received to run next, each of length 0 where there was none: FUOTA_DONE. Its sessions lay in
- * memory, and are gone. There is no device after FUOTA_RANGE and FUOTA_NO_MEMORY, as of fuota_device_new, and after
- * FUOTA_CORRUPT, where no such device saved them. */
-fuota_result fuota_device_restore(fuota_device *handle, const fuota_config *config, const uint8_t *saved, size_t saved_length,
-                                  const uint8_t *running, size_t running_length, const uint8_t *next, size_t next_length);
+/* Frees what was there, and puts the device of this configuration that saved these bytes into the handle, with the
+ * files that ran and that was received to run next, each of length 0 where there was none: FUOTA_DONE. Its sessions
+ * lay in memory, and are gone. There is no device after FUOTA_RANGE and FUOTA_NO_MEMORY, as of fuota_device_new,
+ * and after FUOTA_CORRUPT, where no such device saved them. */
+fuota_result fuota_device_restore(fuota_device *handle, const fuota_config *config, const uint8_t *saved,
+                                  size_t saved_length, const uint8_t *running, size_t running_length,
+                                  const uint8_t *next, size_t next_length);
 
 /* ---- The server of a campaign ---- */
 
@@ -352,9 +354,10 @@ typedef struct fuota_stage {
     uint8_t bits;    /* at FUOTA_STOPPED; else 0 */
 } fuota_stage;
 
-/* Frees what was there, and puts a server at the start of a campaign into the handle: FUOTA_DONE. There is no server
- * after FUOTA_REFUSED, where the image is no image file; FUOTA_RANGE, where a field of the plan is wrong, with the
- * first of them, as enum fuota_field says, in *field; and FUOTA_NO_MEMORY. The devices, 1 to 64, are numbered from 1. */
+/* Frees what was there, and puts a server at the start of a campaign into the handle: FUOTA_DONE. There is no
+ * server after FUOTA_REFUSED, where the image is no image file; FUOTA_RANGE, where a field of the plan is wrong,
+ * with the first of them, as enum fuota_field says, in *field; and FUOTA_NO_MEMORY. The devices, 1 to 64, are
+ * numbered from 1. */
 fuota_result fuota_server_new(fuota_server *handle, const fuota_plan *plan, const fuota_plan_device *devices,
                               size_t devices_length, const uint8_t *image, size_t image_length, uint8_t *field);
 
@@ -371,20 +374,21 @@ fuota_result fuota_server_status_all(fuota_server *handle, fuota_down *out);
 /* The most bytes of a frame. */
 #define FUOTA_MAX_FRAME 255
 
-/* A payload to the group as its multicast frame of LoRaWAN 1.0.x, at the front of `into`; their count, and 0 where the
- * payload is not to the plan's group, has more than 242 bytes or is for port 0, where the frame has no room, or without
- * a server. A network server that is given payloads makes the frames itself. */
+/* A payload to the group as its multicast frame of LoRaWAN 1.0.x, at the front of `into`; their count, and 0 where
+ * the payload is not to the plan's group, has more than 242 bytes or is for port 0, where the frame has no room, or
+ * without a server. A network server that is given payloads makes the frames itself. */
 size_t fuota_server_frame(fuota_server *handle, const fuota_down *down, uint8_t *into, size_t room);
 
-/* What the server asks of a device now, by unicast; it is sent again when no answer comes: FUOTA_DONE; FUOTA_NOTHING
- * where it is updated or refused; FUOTA_RANGE where the plan has no device of this number, 1 to 64; FUOTA_NO_OBJECT. */
+/* What the server asks of a device now, by unicast; it is sent again when no answer comes: FUOTA_DONE;
+ * FUOTA_NOTHING where it is updated or refused; FUOTA_RANGE where the plan has no device of this number, 1 to 64;
+ * FUOTA_NO_OBJECT. */
 fuota_result fuota_server_ask(fuota_server *handle, uint8_t dev, fuota_down *out);
 
-/* An uplink of a device came on a port, at `t` ms of GPS time, and moves its stage: FUOTA_DONE, with an answer to send
- * to it; FUOTA_NOTHING, where none is due; FUOTA_REFUSED, where the payload spells no commands; FUOTA_RANGE, where the
- * plan has no such device or the payload more than 242 bytes, and then nothing changes; FUOTA_NO_OBJECT. */
-fuota_result fuota_server_uplink(fuota_server *handle, uint8_t dev, uint8_t port, const uint8_t *payload, size_t length,
-                                 uint64_t t, fuota_down *out);
+/* An uplink of a device came on a port, at `t` ms of GPS time, and moves its stage: FUOTA_DONE, with an answer to
+ * send to it; FUOTA_NOTHING, where none is due; FUOTA_REFUSED, where the payload spells no commands; FUOTA_RANGE,
+ * where the plan has no such device or the payload more than 242 bytes, and then nothing changes; FUOTA_NO_OBJECT. */
+fuota_result fuota_server_uplink(fuota_server *handle, uint8_t dev, uint8_t port, const uint8_t *payload,
+                                 size_t length, uint64_t t, fuota_down *out);
 
 /* Where a device stands: FUOTA_DONE; FUOTA_RANGE where the plan has no such device; FUOTA_NO_OBJECT. */
 fuota_result fuota_server_ledger(fuota_server *handle, uint8_t dev, fuota_stage *out);
@@ -392,12 +396,13 @@ fuota_result fuota_server_ledger(fuota_server *handle, uint8_t dev, fuota_stage 
 /* The most bytes that a server saves: 44, and two for each of 64 devices. */
 #define FUOTA_SAVED_SERVER 172
 
-/* What the server knows, as bytes for fuota_server_restore, at the front of `into`; their count, and 0 where they have no
- * room, or without a server. They are saved before the payload of a call goes out. There is no key among them. */
+/* What the server knows, as bytes for fuota_server_restore, at the front of `into`; their count, and 0 where they
+ * have no room, or without a server. They are saved before the payload of a call goes out. There is no key among
+ * them. */
 size_t fuota_server_save(fuota_server *handle, uint8_t *into, size_t room);
 
-/* Frees what was there, and puts the server of this plan, devices and image that saved these bytes into the handle: as
- * fuota_server_new puts one at its start, and answered as there; FUOTA_CORRUPT where no such server saved them. */
+/* Frees what was there, and puts the server of this plan, devices and image that saved these bytes into the handle:
+ * as fuota_server_new puts one at its start, and answered as there; FUOTA_CORRUPT where no such server saved them. */
 fuota_result fuota_server_restore(fuota_server *handle, const fuota_plan *plan, const fuota_plan_device *devices,
                                   size_t devices_length, const uint8_t *image, size_t image_length,
                                   const uint8_t *saved, size_t saved_length, uint8_t *field);
@@ -419,10 +424,119 @@ typedef struct fuota_decoded {
 } fuota_decoded;
 
 /* The commands of a payload of port 200 to 203, each on a line, at the front of `text`, with no 0 after it:
- * FUOTA_DONE, and out->length bytes of text; FUOTA_REFUSED; FUOTA_NO_ROOM, where the text has more than `room` bytes,
- * and its length is in out->length; FUOTA_RANGE at more than 242 bytes of payload; FUOTA_NO_MEMORY. `up` says which way the payload goes: from a device, or to one. */
+ * FUOTA_DONE, and out->length bytes of text; FUOTA_REFUSED; FUOTA_NO_ROOM, where the text has more than `room`
+ * bytes, and its length is in out->length; FUOTA_RANGE at more than 242 bytes of payload; FUOTA_NO_MEMORY. `up`
+ * says which way the payload goes: from a device, or to one. */
 fuota_result fuota_decode(uint8_t port, bool up, const uint8_t *payload, size_t length, uint8_t *text, size_t room,
                           fuota_decoded *out);
+
+/* ---- NULL for no bytes ---- */
+
+/* Each call that takes bytes by a pointer and a number, where NULL may stand for none. */
+static inline const uint8_t *fuota_from(const uint8_t *at) {
+    static const uint8_t none = 0;
+    return at ? at : &none;
+}
+
+static inline uint8_t *fuota_into(uint8_t *at) {
+    static uint8_t none;
+    return at ? at : &none;
+}
+
+static inline fuota_result fuota_receiver_hear_0(fuota_receiver *handle, const uint8_t *payload, size_t length,
+                                                 uint64_t mark) {
+    return fuota_receiver_hear(handle, fuota_from(payload), length, mark);
+}
+
+static inline size_t fuota_receiver_file_0(fuota_receiver *handle, size_t offset, uint8_t *into, size_t room) {
+    return fuota_receiver_file(handle, offset, fuota_into(into), room);
+}
+
+static inline size_t fuota_receiver_status_0(fuota_receiver *handle, bool all, uint8_t *answer, size_t room) {
+    return fuota_receiver_status(handle, all, fuota_into(answer), room);
+}
+
+static inline fuota_result fuota_device_deliver_0(fuota_device *handle, uint8_t port, const uint8_t *payload,
+                                                  size_t length, const fuota_arrival *arrival) {
+    return fuota_device_deliver(handle, port, fuota_from(payload), length, arrival);
+}
+
+static inline fuota_result fuota_device_radio_0(fuota_device *handle, const uint8_t *bytes, size_t length,
+                                                uint64_t t, uint32_t word, uint64_t mark) {
+    return fuota_device_radio(handle, fuota_from(bytes), length, t, word, mark);
+}
+
+static inline size_t fuota_device_file_0(fuota_device *handle, uint8_t index, size_t offset, uint8_t *into,
+                                         size_t room) {
+    return fuota_device_file(handle, index, offset, fuota_into(into), room);
+}
+
+static inline size_t fuota_device_save_0(fuota_device *handle, uint8_t *into, size_t room) {
+    return fuota_device_save(handle, fuota_into(into), room);
+}
+
+static inline size_t fuota_device_firmware_0(fuota_device *handle, bool is_next, size_t offset, uint8_t *into,
+                                             size_t room) {
+    return fuota_device_firmware(handle, is_next, offset, fuota_into(into), room);
+}
+
+static inline fuota_result fuota_device_restore_0(fuota_device *handle, const fuota_config *config,
+                                                  const uint8_t *saved, size_t saved_length, const uint8_t *running,
+                                                  size_t running_length, const uint8_t *next, size_t next_length) {
+    return fuota_device_restore(handle, config, fuota_from(saved), saved_length, fuota_from(running),
+                                running_length, fuota_from(next), next_length);
+}
+
+static inline fuota_result fuota_server_new_0(fuota_server *handle, const fuota_plan *plan,
+                                              const fuota_plan_device *devices, size_t devices_length,
+                                              const uint8_t *image, size_t image_length, uint8_t *field) {
+    return fuota_server_new(handle, plan, devices, devices_length, fuota_from(image), image_length, field);
+}
+
+static inline size_t fuota_server_frame_0(fuota_server *handle, const fuota_down *down, uint8_t *into,
+                                          size_t room) {
+    return fuota_server_frame(handle, down, fuota_into(into), room);
+}
+
+static inline fuota_result fuota_server_uplink_0(fuota_server *handle, uint8_t dev, uint8_t port,
+                                                 const uint8_t *payload, size_t length, uint64_t t,
+                                                 fuota_down *out) {
+    return fuota_server_uplink(handle, dev, port, fuota_from(payload), length, t, out);
+}
+
+static inline size_t fuota_server_save_0(fuota_server *handle, uint8_t *into, size_t room) {
+    return fuota_server_save(handle, fuota_into(into), room);
+}
+
+static inline fuota_result fuota_server_restore_0(fuota_server *handle, const fuota_plan *plan,
+                                                  const fuota_plan_device *devices, size_t devices_length,
+                                                  const uint8_t *image, size_t image_length, const uint8_t *saved,
+                                                  size_t saved_length, uint8_t *field) {
+    return fuota_server_restore(handle, plan, devices, devices_length, fuota_from(image), image_length,
+                                fuota_from(saved), saved_length, field);
+}
+
+static inline fuota_result fuota_decode_0(uint8_t port, bool up, const uint8_t *payload, size_t length,
+                                          uint8_t *text, size_t room, fuota_decoded *out) {
+    return fuota_decode(port, up, fuota_from(payload), length, fuota_into(text), room, out);
+}
+
+/* So calls go there by their own names. */
+#define fuota_receiver_hear fuota_receiver_hear_0
+#define fuota_receiver_file fuota_receiver_file_0
+#define fuota_receiver_status fuota_receiver_status_0
+#define fuota_device_deliver fuota_device_deliver_0
+#define fuota_device_radio fuota_device_radio_0
+#define fuota_device_file fuota_device_file_0
+#define fuota_device_save fuota_device_save_0
+#define fuota_device_firmware fuota_device_firmware_0
+#define fuota_device_restore fuota_device_restore_0
+#define fuota_server_new fuota_server_new_0
+#define fuota_server_frame fuota_server_frame_0
+#define fuota_server_uplink fuota_server_uplink_0
+#define fuota_server_save fuota_server_save_0
+#define fuota_server_restore fuota_server_restore_0
+#define fuota_decode fuota_decode_0
 
 #ifdef __cplusplus
 }

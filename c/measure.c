@@ -25,7 +25,9 @@ static fuota_server server = FUOTA_SERVER_NONE;
 static fuota_setup setup = {.frag_size = 48};
 static const fuota_config config = {.hw = 1, .area = 262144, .rows = 256, .formats = 2, .sessions = 4, .groups = 4,
                                     .is_class_c = true};
-static const fuota_plan plan = {.frag_size = 64, .parity = 512}, small_plan = {.frag_size = 48, .parity = 64};
+static const fuota_plan plan = {.frag_size = 64, .parity = 512};
+static const fuota_plan small_plan = {.frag_size = 48, .parity = 64, .addr = 1, .max = 1000, .has_group = true,
+                                      .has_window = true};
 static const fuota_plan_device devices[1];
 static fuota_arrival arrival = {.t = 1000};
 static fuota_down down;
@@ -193,6 +195,11 @@ static void play(int campaign) {
     made(device_view);
     made(device_file);
     made(device_running);
+    made(device_radio);
+    made(device_counts);
+    made(device_next);
+    made(device_raise);
+    made(library_version);
     made(device_save);
     made(device_firmware);
     made(device_restore);
@@ -211,7 +218,7 @@ static void receive(void) {
     made(receiver_set_up);
     made(small_server_new);
     for (n = 1; made(server_next_fragment), answer == FUOTA_DONE; n++)
-        if (n > setup.nb_frag || n % 16)
+        if (made(server_frame), n > setup.nb_frag || n % 16)
             made(receiver_hear);
     made(receiver_view);
     printf("receiver: verdict %d, %d pieces missing\n", view.verdict, view.missing);

@@ -26,7 +26,7 @@ use wire_base::{MAX_PAYLOAD, Payload};
 const SESSIONS: u8 = 4;
 
 /// The last ms of true time at which a device is called.
-pub(crate) const MAX_MOMENT: u64 = 4_294_967_295_999;
+pub const MAX_MOMENT: u64 = 4_294_967_295_999;
 
 /// What a device is configured with, as `DeviceConfig` of `device_core` has it.
 #[repr(C)]
