@@ -1,10 +1,10 @@
 -- The counts of a run, call by call: each that is sent is the server's next one.
-use Rattle.std.proofs.Common.{◌≡◌, ◌⊎◌, inl, inr, ⊎_elim, ℕ, suc, ◌+◌, ◌<◌, ◌≤◌, Bool, true, false, cond, List, [], ◌∷◌, ◌++◌, length, Option, Some, None, Result, Ok, Err, is_some, is_ok, refl, sym, ap, ◌∙◌, subst, arith}
+use Rattle.std.proofs.Common.{◌≡◌, ◌⊎◌, inl, inr, ℕ, ◌+◌, ◌<◌, ◌≤◌, Bool, true, false, List, [], ◌∷◌, ◌++◌, length, Option, Some, None, Ok, Err, refl, sym, ap, ◌∙◌, subst, arith}
 use Rattle.std.specs.Prelude.{◌==◌, nat_lt}
 use Rattle.std.specs.List.{range_with_len, AllPairs, AllByRecursion, slice_index_or}
 use Rattle.std.proofs.lemmas.Bool.{eqb-false}
 use Rattle.std.proofs.lemmas.List.Elements.{All-from_recursion}
-use Rattle.std.proofs.lemmas.List.FromFn.{get_or-range_with_len, length-range_with_len}
+use Rattle.std.proofs.lemmas.List.FromFn.{get_or-range_with_len}
 use Rattle.package_grammar.specs.declared.command.Command.{Command}
 use Rattle.package_grammar.specs.Reading.{Reading, reading_of}
 use Rattle.wire_base.specs.declared.refusal.Direction.TheVariants.{Up}
@@ -13,7 +13,7 @@ use Rattle.campaign_server.specs.declared.stage.Stage.{Stage}
 use Rattle.campaign_server.specs.Plan.{Plan}
 use Rattle.campaign_server.specs.Server.{ServerState, ledger, first_server, first_count}
 use Rattle.campaign_server.specs.Fragments.{receivers, has_no_count, last_fragment, next_count, next_fragment, after_fragment, status_to_all, after_status_to_all}
-use Rattle.campaign_server.specs.Uplinks.{UplinkStep, with_answers, read_uplink, uplink_step}
+use Rattle.campaign_server.specs.Uplinks.{with_answers, read_uplink, uplink_step}
 use Rattle.campaign_server.specs.Counts.{Call, NextFragment, StatusAll, Uplink, after_call, counts_to, counts_of_sent, counts_of_status, counts_of, counts_sent, CountsOnce}
 
 -- ---- a call

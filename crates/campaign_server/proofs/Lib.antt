@@ -1,5 +1,6 @@
 pub mod Wrapping
 pub mod WorkedSteps
+pub mod WorkedStatuses
 pub mod Plans
 pub mod Times
 pub mod LineItems

@@ -13,13 +13,15 @@ use Rattle.campaign_server.specs.declared.plan.Field.{Field}
 use Rattle.campaign_server.specs.declared.plan.Field.TheVariants.{FragSize, Parity, Index, Group, Window, Devices}
 use Rattle.package_grammar.specs.declared.command.Command.{Command}
 use Rattle.campaign_server.specs.declared.plan.PlanDevice.{PlanDevice}
+use Rattle.campaign_server.specs.declared.stage.LastStatus.{LastStatus}
 use Rattle.campaign_server.specs.declared.stage.Stage.{Stage}
 use Rattle.campaign_server.specs.declared.stage.Stage.TheVariants.{At}
 use Rattle.campaign_server.specs.declared.stage.Request.TheVariants.{Version}
-use Rattle.campaign_server.specs.Server.{ServerState, IsCount, ledger, first_count}
+use Rattle.campaign_server.specs.Server.{ServerState, IsCount, ledger, last_status, first_count}
 use Rattle.wire_base.specs.Numbered.{numbered}
 use Rattle.campaign_server.specs.Asking.{request_at, request_of, by_unicast}
 use Rattle.campaign_server.specs.Answers.{stage_after_all}
+use Rattle.campaign_server.specs.Statuses.{status_after_all}
 use Rattle.campaign_server.specs.Time.{time_answer}
 use Rattle.campaign_server.specs.Uplinks.{read_uplink}
 use Rattle.frag_model.specs.Limits.{max_frag_size, max_pieces}
@@ -102,11 +104,13 @@ count_fits None fits = refl
 count_fits (Some group) fits = (omega arith, omega (arith, fits.0))
 
 -- what a server keeps is true at its start
-pub starts : (plan : Plan) (encoder : Encoding) (stages : List Stage) (count : ℕ) → is_image encoder.file ≡ true → IsPlan (length encoder.file) plan → encoder.frag_size ≡ plan.frag_size
-    → stages ≡ replicate (length plan.devices) (At Version) → count ≡ first_count plan.group → IsServer plan encoder stages 1 count
-starts plan encoder stages count image fine cuts are is = record {
+pub starts : (plan : Plan) (encoder : Encoding) (stages : List Stage) (statuses : List (Option LastStatus)) (count : ℕ) → is_image encoder.file ≡ true → IsPlan (length encoder.file) plan → encoder.frag_size ≡ plan.frag_size
+    → stages ≡ replicate (length plan.devices) (At Version) → statuses ≡ replicate (length plan.devices) None
+    → count ≡ first_count plan.group → IsServer plan encoder stages statuses 1 count
+starts plan encoder stages statuses count image fine cuts are none is = record {
   cut = record { image_is = image; fine = fine; cuts = cuts };
   staged = ap length are ∙ length-replicate (length plan.devices) (At Version);
+  told = ap length none ∙ length-replicate (length plan.devices) None;
   low = omega arith;
   high = omega arith;
   counted = rw is (count_fits plan.group fine.group_fits);
@@ -121,10 +125,14 @@ unfolding request_of
 asked_of server dev device stage numbers stands = rw (numbers, stands) refl
 
 -- the server after a message of a device that is numbered
-pub moved_by : (server : ServerState) (dev t : ℕ) (cs : List Command) (stage : Stage) → ledger server dev ≡ Some stage
-    → (read_uplink server dev t (Ok cs)).server ≡ record server { stages = slice_set server.stages (dev - 1) (stage_after_all server.plan server.image stage cs) }
+pub moved_by : (server : ServerState) (dev t : ℕ) (cs : List Command) (stage : Stage) (told : Option LastStatus)
+    → ledger server dev ≡ Some stage → last_status server dev ≡ Some told
+    → (read_uplink server dev t (Ok cs)).server ≡ record server {
+      stages = slice_set server.stages (dev - 1) (stage_after_all server.plan server.image stage cs);
+      statuses = slice_set server.statuses (dev - 1) (status_after_all server.plan told cs);
+    }
 unfolding read_uplink
-moved_by server dev t cs stage stands = rw stands refl
+moved_by server dev t cs stage told stands tells = rw (stands, tells) refl
 
 pub answered_by : (server : ServerState) (dev t : ℕ) (cs : List Command) → (read_uplink server dev t (Ok cs)).answer ≡ Ok (by_unicast (time_answer t cs))
 unfolding read_uplink

@@ -10,10 +10,11 @@ use Rattle.campaign_server.specs.declared.stage.Stage.{Stage}
 use Rattle.campaign_server.specs.declared.stage.Stage.TheVariants.{At}
 use Rattle.campaign_server.specs.declared.stage.Request.TheVariants.{Version}
 use Rattle.campaign_server.specs.Answers.{stage_after_all}
+use Rattle.campaign_server.specs.Statuses.{status_after_all}
 use Rattle.campaign_server.specs.Plan.{Plan, bad_field}
-use Rattle.campaign_server.specs.Server.{ServerState, IsCount, ledger, first_server, first_count}
+use Rattle.campaign_server.specs.Server.{ServerState, IsCount, ledger, last_status, first_server, first_count}
 use Rattle.campaign_server.specs.Fragments.{has_no_count, last_fragment, next_count, next_fragment, after_fragment, status_to_all, after_status_to_all}
-use Rattle.campaign_server.specs.Uplinks.{with_answers, read_uplink, uplink_step}
+use Rattle.campaign_server.specs.Uplinks.{told_or_none, with_answers, read_uplink, uplink_step}
 use Rattle.campaign_server.specs.Counts.{Call, NextFragment, StatusAll, Uplink, after_call}
 use Rattle.campaign_server.specs.Saving.{IsOver}
 use Rattle.campaign_server.specs.Restarts.{Told, told_by, all_told, after_calls, Step, Calls, Restarts, calls_of, IsRestored, Leads, HasWidth, LastsThroughRestarts}
@@ -42,6 +43,7 @@ starts_over plan image fine wide =
       image_is = refl;
       fine = fine;
       staged = length-replicate (length plan.devices) (At Version);
+      told = length-replicate (length plan.devices) None;
       low = omega arith;
       high = omega arith;
       counted = is;
@@ -60,6 +62,7 @@ sends_on plan image server next wide over low high free =
       image_is = over.image_is;
       fine = over.fine;
       staged = over.staged;
+      told = over.told;
       low = low;
       high = high;
       counted = is;
@@ -92,6 +95,7 @@ over_answers plan image server dev cs (Some stage) over = record {
   image_is = over.image_is;
   fine = over.fine;
   staged = length-set server.stages (dev - 1) (stage_after_all server.plan server.image stage cs) ∙ over.staged;
+  told = length-set server.statuses (dev - 1) (status_after_all server.plan (told_or_none (last_status server dev)) cs) ∙ over.told;
   low = over.low;
   high = over.high;
   counted = over.counted;

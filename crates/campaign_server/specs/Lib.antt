@@ -5,11 +5,13 @@ pub mod Asking
 pub mod Answers
 pub mod Fragments
 pub mod Time
+pub mod Statuses
 pub mod Uplinks
 pub mod Sent
 pub mod Framing
 pub mod Counts
 pub mod WorkedSteps
+pub mod WorkedStatuses
 pub mod ServerInside
 pub mod Saving
 pub mod Restarts

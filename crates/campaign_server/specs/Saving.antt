@@ -5,11 +5,13 @@
 --    7  the group's next frame count, of 4 bytes; without a group 0
 --   11  the number of devices
 --   12  two bytes a device: its stage, and the bits of a refusal, else 0
+-- then  four bytes a device: 1 where it told its status, 3 where it had too little memory too, else 0; the fragments that it
+--       heard, of 2 bytes; the pieces that it missed
 -- then  SHA-256 of all before it, the plan and the image, 32 bytes
-use Rattle.std.specs.Prelude.{◌≡◌, ℕ, ◌+◌, ◌^◌, ◌<◌, ◌≤◌, List, [], ◌∷◌, ◌++◌, length, codes, Option, Some, None}
+use Rattle.std.specs.Prelude.{◌≡◌, ℕ, ◌+◌, ◌/◌, ◌%◌, ◌^◌, ◌<◌, ◌≤◌, List, [], ◌∷◌, ◌++◌, length, codes, Option, Some, None}
 use Rattle.std.specs.List.{flat_map}
 use Rattle.sha2.specs.Sha256.{sha256}
-use Rattle.wire_base.specs.Numbers.{number_bytes}
+use Rattle.wire_base.specs.Numbers.{number_bytes, flag_value}
 use Rattle.mc_keys.specs.declared.root_kind.RootKind.{RootKind}
 use Rattle.mc_keys.specs.declared.root_kind.RootKind.TheVariants.{V10, V11}
 use Rattle.campaign_server.specs.declared.plan.PlanGroup.{PlanGroup}
@@ -17,6 +19,7 @@ use Rattle.campaign_server.specs.declared.plan.PlanWindow.{PlanWindow}
 use Rattle.campaign_server.specs.declared.plan.PlanDevice.{PlanDevice}
 use Rattle.campaign_server.specs.declared.plan.Kind.{Kind}
 use Rattle.campaign_server.specs.declared.plan.Kind.TheVariants as kind
+use Rattle.campaign_server.specs.declared.stage.LastStatus.{LastStatus}
 use Rattle.campaign_server.specs.declared.stage.Stage.{Stage}
 use Rattle.campaign_server.specs.declared.stage.Stage.TheVariants.{At, Updated, Refused}
 use Rattle.campaign_server.specs.declared.stage.Request.{Request}
@@ -72,6 +75,11 @@ stage_bytes (At request) = request_byte request ∷ 0 ∷ []
 stage_bytes Updated = 8 ∷ 0 ∷ []
 stage_bytes (Refused request bits) = (16 + request_byte request) ∷ bits ∷ []
 
+abbrev pub status_bytes : Option LastStatus → List ℕ
+status_bytes None = 0 ∷ 0 ∷ 0 ∷ 0 ∷ []
+status_bytes (Some told) =
+    (1 + flag_value told.norows 2) ∷ told.received % 256 ∷ told.received / 256 ∷ told.missing ∷ []
+
 -- the fields before the stages
 abbrev pub head_bytes : (next count devices : ℕ) → List ℕ
 head_bytes next count devices = codes "FUSS" ++ 1 ∷ number_bytes 2 next ++ number_bytes 4 count ++ devices ∷ []
@@ -79,6 +87,7 @@ head_bytes next count devices = codes "FUSS" ++ 1 ∷ number_bytes 2 next ++ num
 unfoldable pub state_bytes : ServerState → List ℕ
 state_bytes server =
     head_bytes server.next server.count (length server.stages) ++ flat_map stage_bytes server.stages
+    ++ flat_map status_bytes server.statuses
 
 -- all of it
 unfoldable pub saved_of : ServerState → List ℕ
@@ -88,13 +97,14 @@ saved_of server =
 
 -- ---- of which records
 
--- a record that a server of this plan and image can have: a stage a device, the next fragment one of those that are sent or
+-- a record that a server of this plan and image can have: a stage and a status a device, the next fragment one of those that are sent or
 -- after them, and the next frame count from the group's MIN to its MAX, a number of four bytes
 pub record IsOver (plan : Plan) (image : List ℕ) (server : ServerState) : Type 0 where
   pub plan_is : server.plan ≡ plan
   pub image_is : server.image ≡ image
   pub fine : bad_field (length image) plan ≡ None
   pub staged : length server.stages ≡ length plan.devices
+  pub told : length server.statuses ≡ length plan.devices
   pub low : 1 ≤ server.next
   pub high : server.next ≤ last_fragment server + 1
   pub counted : IsCount plan.group server.count

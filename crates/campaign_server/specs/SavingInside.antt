@@ -6,6 +6,7 @@ use Rattle.campaign_server.specs.declared.server.ServerError.{ServerError}
 use Rattle.campaign_server.specs.declared.server.ServerError.TheVariants as new
 use Rattle.campaign_server.specs.declared.saving.RestoreError.{RestoreError}
 use Rattle.campaign_server.specs.declared.saving.RestoreError.TheVariants as restored
+use Rattle.campaign_server.specs.declared.stage.LastStatus.{LastStatus}
 use Rattle.campaign_server.specs.declared.stage.Stage.{Stage}
 use Rattle.campaign_server.specs.declared.stage.Stage.TheVariants.{At, Updated, Refused}
 use Rattle.campaign_server.specs.declared.stage.Request.{Request}
@@ -45,6 +46,21 @@ stage_at bytes k = stage_of (slice_index bytes (12 + 2 * k)) (slice_index bytes 
 abbrev pub stages_in : List ℕ → (number : ℕ) → List Stage
 stages_in bytes number = map (λ k. stage_at bytes k) (range_with_len 0 number)
 
+-- the status of four bytes that one has; of others any
+abbrev pub status_of : (flags low high missing : ℕ) → Option LastStatus
+status_of flags low high missing =
+    if flags == 0 then None
+    else Some (record { received = low + 256 * high; missing = missing; norows = nat_lt 1 flags })
+
+-- that of device k, counted from 0, of so many
+unfoldable pub status_at : List ℕ → (number k : ℕ) → Option LastStatus
+status_at bytes number k =
+    let at = 12 + 2 * number + 4 * k in
+    status_of (slice_index bytes at) (slice_index bytes (at + 1)) (slice_index bytes (at + 2)) (slice_index bytes (at + 3))
+
+abbrev pub statuses_in : List ℕ → (number : ℕ) → List (Option LastStatus)
+statuses_in bytes number = map (λ k. status_at bytes number k) (range_with_len 0 number)
+
 -- the group's next frame count can be this
 abbrev pub is_count : Option PlanGroup → (count : ℕ) → Bool
 is_count None count = count == 0
@@ -53,7 +69,7 @@ is_count (Some group) count = nat_le group.min count && nat_le count group.max
 -- the fields are there, and the numbers within what a server's are
 abbrev pub fits : ServerState → List ℕ → Bool
 fits server bytes =
-    nat_le (12 + 2 * length server.stages) (length bytes)
+    nat_le (12 + 6 * length server.stages) (length bytes)
     && nat_le 1 (number_at bytes 5 2) && nat_le (number_at bytes 5 2) (last_fragment server + 1)
     && is_count server.plan.group (number_at bytes 7 4)
 
@@ -61,6 +77,7 @@ fits server bytes =
 abbrev pub told_of : ServerState → List ℕ → ServerState
 told_of server bytes = record server {
   stages = stages_in bytes (length server.stages);
+  statuses = statuses_in bytes (length server.stages);
   next = number_at bytes 5 2;
   count = number_at bytes 7 4;
 }

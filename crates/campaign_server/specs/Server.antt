@@ -6,16 +6,19 @@ use Rattle.package_grammar.specs.declared.downlink.To.{To}
 use Rattle.package_grammar.specs.declared.downlink.Downlink.{Downlink}
 use Rattle.package_grammar.specs.Grammar.{row, canonical}
 use Rattle.campaign_server.specs.declared.plan.PlanGroup.{PlanGroup}
+use Rattle.campaign_server.specs.declared.stage.LastStatus.{LastStatus}
 use Rattle.campaign_server.specs.declared.stage.Stage.{Stage}
 use Rattle.campaign_server.specs.declared.stage.Stage.TheVariants.{At}
 use Rattle.campaign_server.specs.declared.stage.Request.TheVariants.{Version}
 use Rattle.campaign_server.specs.Plan.{Plan}
 
--- its plan and image; where each device stands; the number of the fragment that is sent next, and the group's next frame count
+-- its plan and image; where each device stands, and what it told last of its session; the number of the fragment that is sent
+-- next, and the group's next frame count
 pub record ServerState : Type 0 where
   pub plan : Plan
   pub image : List ℕ
   pub stages : List Stage
+  pub statuses : List (Option LastStatus)
   pub next : ℕ
   pub count : ℕ
 
@@ -29,12 +32,13 @@ abbrev pub IsCount : Option PlanGroup → (count : ℕ) → Type 0
 IsCount None count = count ≡ 0
 IsCount (Some group) count = (group.min ≤ count) × (count ≤ group.max)
 
--- at its start every device is at version
+-- at its start every device is at version, and has told nothing
 abbrev pub first_server : List ℕ → Plan → ServerState
 first_server image plan = record {
   plan = plan;
   image = image;
   stages = replicate (length plan.devices) (At Version);
+  statuses = replicate (length plan.devices) None;
   next = 1;
   count = first_count plan.group;
 }
@@ -42,6 +46,10 @@ first_server image plan = record {
 -- where a device stands: the ledger
 abbrev pub ledger : ServerState → (dev : ℕ) → Option Stage
 ledger server dev = numbered server.stages dev
+
+-- what it told last; None where it told nothing
+abbrev pub last_status : ServerState → (dev : ℕ) → Option (Option LastStatus)
+last_status server dev = numbered server.statuses dev
 
 -- ---- what it sends
 

@@ -7,6 +7,7 @@ use Rattle.campaign_server.specs.declared.plan.Kind.{Kind}
 use Rattle.campaign_server.specs.declared.plan.Kind.TheVariants as kind
 use Rattle.campaign_server.specs.declared.plan.PlanGroup.{PlanGroup}
 use Rattle.campaign_server.specs.declared.plan.PlanWindow.{PlanWindow}
+use Rattle.campaign_server.specs.declared.stage.LastStatus.{LastStatus}
 use Rattle.campaign_server.specs.declared.stage.Stage.{Stage}
 use Rattle.campaign_server.specs.Plan.{Plan, max_parity, max_devices, max_index}
 use Rattle.campaign_server.specs.Server.{IsCount}
@@ -42,10 +43,12 @@ pub record IsCut (plan : Plan) (encoder : Encoding) : Type 0 where
   pub fine : IsPlan (length encoder.file) plan
   pub cuts : encoder.frag_size ≡ plan.frag_size
 
--- each device has a stage, and the next fragment is one of those that are sent, or after them
-pub record IsServer (plan : Plan) (encoder : Encoding) (stages : List Stage) (next count : ℕ) : Type 0 where
+-- each device has a stage and a place for its status, and the next fragment is one of those that are sent, or after them
+pub record IsServer (plan : Plan) (encoder : Encoding) (stages : List Stage) (statuses : List (Option LastStatus))
+    (next count : ℕ) : Type 0 where
   pub cut : IsCut plan encoder
   pub staged : length stages ≡ length plan.devices
+  pub told : length statuses ≡ length plan.devices
   pub low : 1 ≤ next
   pub high : next ≤ nb_frag_of (length encoder.file) plan.frag_size + plan.parity + 1
   pub counted : IsCount plan.group count

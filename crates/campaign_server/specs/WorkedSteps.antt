@@ -76,7 +76,7 @@ by_unicast port payload = Some (record { to = to.Unicast; port = port; payload =
 
 pub record AskSteps : Type 0 where
   pub start : first_server image two_devices
-      ≡ record { plan = two_devices; image = image; stages = At Version ∷ At Version ∷ []; next = 1; count = 0 }
+      ≡ record { plan = two_devices; image = image; stages = At Version ∷ At Version ∷ []; statuses = None ∷ None ∷ []; next = 1; count = 0 }
   -- the second device is asked for the group, with the key wrapped for it
   pub own_key : request_of (record (first_server image (record grouped { devices = two_devices.devices })) { stages = At Version ∷ At Group ∷ [] }) 2
       ≡ Some (record { to = to.Unicast; command = Cast (group_request (record { key = replicate 16 1; root = V10 }) worked_group) })

@@ -4,25 +4,60 @@ ghost use Rattle.std.specs.Prelude.{◌≡◌, ◌≤◌, ◌+◌, length};
 ghost use Rattle.package_grammar.specs.declared.command.Command.TheVariants.{Sync, Cast};
 ghost use Rattle.image_slots.specs.Image.{further};
 ghost use Rattle.campaign_server.specs.Answers.{stage_after, stage_after_all, unless_refused, where_own, window_bits, after_version, after_group, after_setup, after_window, after_status, after_upgrade, after_check, is_class_c, is_class_b};
+ghost use Rattle.campaign_server.specs.Statuses.{status_after, status_after_all};
 ghost use Rattle.campaign_server.specs.declared.stage.Stage.TheVariants.{At};
 
 use crate::plan::{Kind, Plan, PlanWindow, own_id};
-use crate::stage::{Request, Stage};
+use crate::stage::{LastStatus, Request, Stage, Standing};
 use cast_wire::{Cmd, refusal_bits};
 use image_slots::{firmware, is_for};
 use package_grammar::{Command, Message};
 use wire_base::flag_value;
 
-/// The stage after the commands of an uplink, one after another.
-pub fn stage_after_all(plan: &Plan, image: &[u8], stage: Stage, mut message: Message) -> Stage
+/// Where a device stands after the commands of an uplink, one after another.
+pub fn after_all(plan: &Plan, image: &[u8], standing: Standing, mut message: Message) -> Standing
     requires { 49 + further image.now ≤ length image.now }
-    ensures { result ≡ stage_after_all plan.now image.now stage message.entry.commands }
+    ensures stage { result.stage
+        ≡ stage_after_all plan.now image.now standing.stage message.entry.commands }
+    ensures status { result.status
+        ≡ status_after_all plan.now standing.status message.entry.commands }
 {
-    let mut at = stage;
+    let Standing {
+        mut stage,
+        mut status,
+    } = standing;
     while let Some(command) = message.next() {
-        at = stage_after(plan, image, at, &command);
+        stage = stage_after(plan, image, stage, &command);
+        status = status_after(plan, status, &command);
     }
-    at
+    Standing { stage, status }
+}
+
+/// The last status after a command of an uplink: that of the campaign's session is kept.
+fn status_after(plan: &Plan, status: Option<LastStatus>, command: &Command) -> Option<LastStatus>
+    ensures { result ≡ status_after plan.now status command.now }
+{
+    match command {
+        Command::Cast(
+            Cmd::FragSessionStatusAns {
+                index,
+                received,
+                missing,
+                norows,
+            },
+        ) => {
+            if *index == plan.index {
+                Some(LastStatus {
+                    received: *received,
+                    missing: *missing,
+                    norows: *norows,
+                })
+            } else {
+                status
+            }
+        }
+        _ => status,
+    }
 }
 
 /// The stage after a command of an uplink: an answer moves its own stage alone.

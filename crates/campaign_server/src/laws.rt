@@ -24,6 +24,7 @@ ghost use Rattle.campaign_server.specs.Wrapping.{wrapped_key};
 ghost use Rattle.campaign_server.specs.Counts.{CountsOnce};
 ghost use Rattle.campaign_server.specs.Restarts.{LastsThroughRestarts};
 ghost use Rattle.campaign_server.specs.WorkedSaving.{SavingSteps};
+ghost use Rattle.campaign_server.specs.WorkedStatuses.{StatusSteps};
 ghost use Rattle.campaign_server.specs.WorkedSteps.{AskSteps, AnswerSteps, TimeSteps, SendSteps, PlanSteps};
 
 use mc_frames::frame_holds_what_it_was_made_of;
@@ -104,4 +105,5 @@ pub fn worked_steps()
     ensures sending { SendSteps }
     ensures plans { PlanSteps }
     ensures saving { SavingSteps }
+    ensures statuses { StatusSteps }
 {}

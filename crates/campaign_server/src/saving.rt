@@ -5,19 +5,20 @@ ghost use Rattle.std.specs.Prelude.{◌≡◌, ◌+◌, ◌*◌, ◌≤◌, ◌+
 ghost use Rattle.std.specs.List.{flat_map};
 ghost use Rattle.sha2.specs.Sha256.{sha256};
 ghost use Rattle.campaign_server.specs.Plan.{max_devices};
-ghost use Rattle.campaign_server.specs.Saving.{group_bytes, kind_bytes, window_bytes, root_byte, device_bytes, plan_bytes, request_byte, stage_bytes, head_bytes, saved_of};
-ghost use Rattle.campaign_server.specs.SavingInside.{restore_error, request_of, stage_of, stage_at, stages_in};
+ghost use Rattle.campaign_server.specs.Saving.{group_bytes, kind_bytes, window_bytes, root_byte, device_bytes, plan_bytes, request_byte, stage_bytes, status_bytes, head_bytes, saved_of};
+ghost use Rattle.campaign_server.specs.SavingInside.{restore_error, request_of, stage_of, stage_at, stages_in, status_of, status_at, statuses_in};
 
 use crate::plan::{Field, Kind, Plan, PlanDevice, PlanGroup, PlanWindow};
 use crate::server::ServerError;
-use crate::stage::{Request, Stage};
+use crate::stage::{LastStatus, Request, Stage};
 use arrayvec::ArrayVec;
 use mc_keys::RootKind;
 use sha2::{Digest, Sha256};
 use thiserror::Error;
+use wire_base::flag_value;
 
-/// The most bytes of a saved server: 12, two for each of 64 devices, and a digest of 32.
-pub const MAX_SAVED: usize = 172;
+/// The most bytes of a saved server: 12, six for each of 64 devices, and a digest of 32.
+pub const MAX_SAVED: usize = 428;
 
 /// What a server knows, as bytes. They lie in the value itself.
 pub type SavedServer = ArrayVec<u8, MAX_SAVED>;
@@ -54,20 +55,29 @@ pub fn restore_error(error: ServerError) -> RestoreError
     }
 }
 
-/// The bytes of a server with this plan, image and stages, and these next numbers.
+/// The bytes of a server with this plan, image, stages and statuses, and these next numbers.
 #[tactic(auto, unfolding(crate::specs::Saving::saved_of, crate::specs::Saving::state_bytes))]
-pub fn saved_of(plan: &Plan, image: &[u8], stages: &[Stage], next: u16, count: u32) -> SavedServer
+pub fn saved_of(
+    plan: &Plan,
+    image: &[u8],
+    stages: &[Stage],
+    statuses: &[Option<LastStatus>],
+    next: u16,
+    count: u32,
+) -> SavedServer
     requires devices { length plan.now.devices ≤ max_devices }
     requires stages { length stages.now ≤ max_devices }
+    requires statuses { length statuses.now ≤ max_devices }
     ensures { result.items ≡ saved_of (record {
       plan = plan.now;
       image = image.now;
       stages = stages.now;
+      statuses = statuses.now;
       next = next;
       count = count;
     }) }
 {
-    let mut saved = state_bytes(stages, next, count);
+    let mut saved = state_bytes(stages, statuses, next, count);
     let digest = digest_of(saved.as_slice(), plan_bytes(plan).as_slice(), image);
     put(&mut saved, &digest);
     saved
@@ -84,11 +94,17 @@ fn digest_of(state: &[u8], plan: &[u8], image: &[u8]) -> [u8; 32]
 }
 
 /// All before the digest.
-fn state_bytes(stages: &[Stage], next: u16, count: u32) -> SavedServer
-    requires { length stages.now ≤ max_devices }
+fn state_bytes(
+    stages: &[Stage],
+    statuses: &[Option<LastStatus>],
+    next: u16,
+    count: u32,
+) -> SavedServer
+    requires stages { length stages.now ≤ max_devices }
+    requires statuses { length statuses.now ≤ max_devices }
     ensures bytes { result.items ≡ head_bytes next count (length stages.now)
-        ++ flat_map stage_bytes stages.now }
-    ensures room { length result.items ≤ 140 }
+        ++ flat_map stage_bytes stages.now ++ flat_map status_bytes statuses.now }
+    ensures room { length result.items ≤ 396 }
 {
     let [n0, n1] = next.to_le_bytes();
     let [c0, c1, c2, c3] = count.to_le_bytes();
@@ -99,11 +115,35 @@ fn state_bytes(stages: &[Stage], next: u16, count: u32) -> SavedServer
         &[b'F', b'U', b'S', b'S', 1, n0, n1, c0, c1, c2, c3, number],
     );
     put_stages(&mut state, stages);
+    put_statuses(&mut state, statuses);
     state
 }
 
+fn put_statuses(to: &mut SavedServer, statuses: &[Option<LastStatus>])
+    requires { length to.old.items + 4 * length statuses.now ≤ 428 }
+    ensures { to.new.items ≡ to.old.items ++ flat_map status_bytes statuses.now }
+{
+    for status in statuses {
+        put(to, &status_bytes(*status));
+    }
+}
+
+fn status_bytes(status: Option<LastStatus>) -> [u8; 4]
+    ensures { result ≡ status_bytes status }
+{
+    match status {
+        None => [0, 0, 0, 0],
+        Some(told) => [
+            1 + flag_value(told.norows, 2),
+            (told.received % 256) as u8,
+            (told.received / 256) as u8,
+            told.missing,
+        ],
+    }
+}
+
 fn put_stages(to: &mut SavedServer, stages: &[Stage])
-    requires { length to.old.items + 2 * length stages.now ≤ 172 }
+    requires { length to.old.items + 2 * length stages.now ≤ 428 }
     ensures { to.new.items ≡ to.old.items ++ flat_map stage_bytes stages.now }
 {
     for stage in stages {
@@ -145,6 +185,41 @@ pub fn read_stages(stages: &mut [Stage], bytes: &[u8])
     for k in 0..stages.len() {
         stages[k] = stage_at(bytes, k);
     }
+}
+
+/// Puts the statuses that bytes say in place of these.
+pub fn read_statuses(statuses: &mut [Option<LastStatus>], bytes: &[u8])
+    requires { 12 + 6 * length statuses.old ≤ length bytes.now }
+    ensures { statuses.new ≡ statuses_in bytes.now (length statuses.old) }
+{
+    let number = statuses.len();
+    for k in 0..statuses.len() {
+        statuses[k] = status_at(bytes, number, k);
+    }
+}
+
+/// The status of device k, counted from 0, of so many.
+#[tactic(auto, unfolding(crate::specs::SavingInside::status_at))]
+fn status_at(bytes: &[u8], number: usize, k: usize) -> Option<LastStatus>
+    requires { 16 + 2 * number + 4 * k ≤ length bytes.now }
+    ensures { result ≡ status_at bytes.now number k }
+{
+    let at = HEAD + 2 * number + 4 * k;
+    status_of(bytes[at], bytes[at + 1], bytes[at + 2], bytes[at + 3])
+}
+
+/// The status of four bytes that one has; of others any.
+fn status_of(flags: u8, low: u8, high: u8, missing: u8) -> Option<LastStatus>
+    ensures { result ≡ status_of flags low high missing }
+{
+    if flags == 0 {
+        return None;
+    }
+    Some(LastStatus {
+        received: low as u16 + 256 * high as u16,
+        missing,
+        norows: flags > 1,
+    })
 }
 
 /// The stage of device k, counted from 0.

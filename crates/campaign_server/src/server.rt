@@ -7,7 +7,7 @@ ghost use Rattle.campaign_server.specs.declared.plan.Field.{Field};
 ghost use Rattle.campaign_server.specs.declared.stage.Stage.TheVariants.{At};
 ghost use Rattle.campaign_server.specs.declared.stage.Request.TheVariants.{Version};
 ghost use Rattle.campaign_server.specs.Plan.{bad_field};
-ghost use Rattle.campaign_server.specs.Server.{ServerState, first_server, first_count, ledger};
+ghost use Rattle.campaign_server.specs.Server.{ServerState, first_server, first_count, ledger, last_status};
 ghost use Rattle.wire_base.specs.Numbered.{numbered};
 ghost use Rattle.wire_base.specs.Numbers.{number_at};
 ghost use Rattle.campaign_server.specs.Asking.{request_of};
@@ -19,7 +19,7 @@ ghost use Rattle.campaign_server.specs.Framing.{has_frame, frame_for};
 ghost use Rattle.campaign_server.specs.Saving.{IsOver, saved_of};
 ghost use Rattle.campaign_server.specs.SavingInside.{fits, told_of};
 
-use crate::answers::stage_after_all;
+use crate::answers::after_all;
 use crate::asking::request;
 use crate::checks::bad_field;
 use crate::fragments::{
@@ -27,11 +27,14 @@ use crate::fragments::{
 };
 use crate::framing::{is_to_group, keys_of};
 use crate::plan::{Field, Plan, PlanDevice};
-use crate::saving::{HEAD, RestoreError, SavedServer, read_stages, restore_error, saved_of};
+use crate::saving::{
+    HEAD, RestoreError, SavedServer, read_stages, read_statuses, restore_error, saved_of,
+};
 use crate::spelling::unicast;
-use crate::stage::{Request, Stage};
+use crate::stage::{LastStatus, Stage, Standing};
+use crate::starting::{cut, first_stages, first_statuses};
 use crate::time::time_answer;
-use frag_encoder::{Encoder, EncoderError};
+use frag_encoder::Encoder;
 use mc_frames::{Frame, Keys, frame};
 use package_grammar::{Downlink, Message, To};
 use std::alloc::{AllocError, Global};
@@ -67,6 +70,7 @@ pub struct Server {
     plan: Plan,
     encoder: Encoder,
     stages: Vec<Stage>,
+    statuses: Vec<Option<LastStatus>>,
     next: u16,
     count: u32,
     /// The session keys of the plan's group, which no frame derives anew.
@@ -81,9 +85,9 @@ impl Model for Server {
 
     ghost Value = { ServerState };
 
-    ghost view = { λ s. record { plan = s.plan; image = s.encoder.file; stages = s.stages.items; next = s.next; count = s.count } };
+    ghost view = { λ s. record { plan = s.plan; image = s.encoder.file; stages = s.stages.items; statuses = s.statuses.items; next = s.next; count = s.count } };
 
-    ghost invariant = { λ s. IsServer s.plan s.encoder s.stages.items s.next s.count
+    ghost invariant = { λ s. IsServer s.plan s.encoder s.stages.items s.statuses.items s.next s.count
         × (s.keys ≡ option_map session_keys s.plan.group) };
 }
 
@@ -109,12 +113,17 @@ impl Server {
             Ok(stages) => stages,
             Err(_) => return Err(ServerError::Memory),
         };
+        let statuses = match first_statuses(alloc, plan.devices.len()) {
+            Ok(statuses) => statuses,
+            Err(_) => return Err(ServerError::Memory),
+        };
         let count = first_count(plan.group);
         let keys = keys_of(plan.group);
         Ok(Server {
             plan,
             encoder,
             stages,
+            statuses,
             next: 1,
             count,
             keys,
@@ -130,6 +139,7 @@ impl Server {
             &self.plan,
             self.encoder.file(),
             &self.stages,
+            &self.statuses,
             self.next,
             self.count,
         )
@@ -171,7 +181,7 @@ impl Server {
         ensures same { result ≡ false → self.new ≡ self.old }
     {
         let number = self.stages.len();
-        if bytes.len() < HEAD + 2 * number {
+        if bytes.len() < HEAD + 6 * number {
             return false;
         }
         let next = u16_at(bytes, 5);
@@ -183,6 +193,7 @@ impl Server {
             return false;
         }
         read_stages(&mut self.stages, bytes);
+        read_statuses(&mut self.statuses, bytes);
         self.next = next;
         self.count = count;
         true
@@ -297,9 +308,13 @@ impl Server {
             Err(refusal) => return Err(refusal),
         };
         let answer = time_answer(t, message.again());
-        let stage = numbered(&self.stages, dev);
-        let moved = stage_after_all(&self.plan, self.encoder.file(), stage, message);
-        self.stages[dev as usize - 1] = moved;
+        let standing = Standing {
+            stage: numbered(&self.stages, dev),
+            status: numbered(&self.statuses, dev),
+        };
+        let moved = after_all(&self.plan, self.encoder.file(), standing, message);
+        self.stages[dev as usize - 1] = moved.stage;
+        self.statuses[dev as usize - 1] = moved.status;
         Ok(answer)
     }
 
@@ -310,6 +325,16 @@ impl Server {
         ensures { Some result ≡ ledger self.now dev }
     {
         numbered(&self.stages, dev)
+    }
+
+    /// What device `dev` told last of the campaign's session, at whichever stage: how many fragments it heard and how many
+    /// pieces it missed, by which an operator chooses how many coded ones to send. None where it told nothing.
+    pub fn last_status(&self, dev: u8) -> Option<LastStatus>
+        requires first { 1 ≤ dev }
+        requires last { dev ≤ length self.now.plan.devices }
+        ensures { Some result ≡ last_status self.now dev }
+    {
+        numbered(&self.statuses, dev)
     }
 
     /// What it is to do.
@@ -353,29 +378,6 @@ impl Server {
     {
         self.plan.parity
     }
-}
-
-/// The encoder of an image, cut as the plan says.
-fn cut(alloc: Global, plan: &Plan, image: &[u8]) -> Result<Encoder, AllocError>
-    requires image { is_image image.now ≡ true }
-    requires fine { IsPlan (length image.now) plan.now }
-    ensures { IfOk result (λ e. e ≡ record { file = image.now; frag_size = plan.now.frag_size }) }
-{
-    match Encoder::new(alloc, image, plan.frag_size) {
-        Ok(encoder) => Ok(encoder),
-        Err(EncoderError::Memory) => Err(AllocError),
-        Err(EncoderError::BadSize) => unreachable!(),
-    }
-}
-
-/// So many devices at version.
-fn first_stages(alloc: Global, count: usize) -> Result<Vec<Stage>, AllocError>
-    requires { count ≤ 64 }
-    ensures { IfOk result (λ stages. stages.items ≡ replicate count (At Version)) }
-{
-    let mut stages = Vec::new(alloc);
-    stages.resize(count, Stage::At(Request::Version))?;
-    Ok(stages)
 }
 
 /// The device with a number of the plan.

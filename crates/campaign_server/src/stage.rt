@@ -33,3 +33,22 @@ pub enum Stage {
     /// rate; at `Status` 1, too little memory for the matrix; at `Image` the status of DevUpgradeImageAns.
     Refused { request: Request, bits: u8 },
 }
+
+/// What a device told of the campaign's session in its last FragSessionStatusAns (TS004-1.0.0, 3.2).
+#[derive(Clone, Copy, Debug, PartialEq, Eq)]
+pub struct LastStatus {
+    /// Fragments that it heard, repeats included, at most 16,383.
+    pub received: u16,
+    /// Pieces still to be gained, at most 255, which stands for more too.
+    pub missing: u8,
+    /// Whether it had too little memory for the matrix.
+    pub norows: bool,
+}
+
+/// What a server knows of a device.
+#[derive(Clone, Copy)]
+pub struct Standing {
+    pub stage: Stage,
+    /// None before its first FragSessionStatusAns.
+    pub status: Option<LastStatus>,
+}

@@ -1,3 +1,4 @@
+use Rattle.campaign_server.proofs.WorkedStatuses.{statuses}
 use Rattle.campaign_server.proofs.WorkedSaving.{saving}
 use Rattle.campaign_server.proofs.WorkedSteps.{asking, answers, times, sending, plans}
 use Rattle.campaign_server.proofs.laws.worked_steps.Goals as goal
@@ -19,3 +20,6 @@ returns-clause-plans c = plans
 
 pub returns-clause-saving : goal.returns-clause-saving
 returns-clause-saving c = saving
+
+pub returns-clause-statuses : goal.returns-clause-statuses
+returns-clause-statuses c = statuses

@@ -1,9 +1,9 @@
-use Rattle.std.proofs.Common.{ap, subst, ◌∙◌, length}
+use Rattle.std.proofs.Common.{subst, length}
 use Rattle.frag_encoder.specs.Encoding.{IsBadSize}
 use Rattle.image_slots.proofs.ImageLemmas.{image_some}
 use Rattle.campaign_server.specs.Plan.{Plan}
 use Rattle.campaign_server.proofs.Plans.{cuts_well}
-use Rattle.campaign_server.proofs.server.cut.Goals as goal
+use Rattle.campaign_server.proofs.starting.cut.Goals as goal
 
 pub unreachable-requires : goal.unreachable-requires
 unreachable-requires c =
