@@ -307,25 +307,35 @@ static int server_answers(const uint8_t *image, size_t length) {
 
 /* A server ends and another is restored after each of its calls, and each changed byte and each cut is refused. */
 static int server_outlasts(const uint8_t *image, size_t length) {
-    static const uint8_t first[14] = {'F', 'U', 'S', 'S', 1, 1, 0, 0, 0, 0, 0, 1, 0, 0};
+    static const uint8_t first[18] = {'F', 'U', 'S', 'S', 1, 1, 0, 0, 0, 0, 0, 1, 0, 0, 0, 0, 0, 0};
+    static const uint8_t told[5] = {0x01, 0x34, 0x12, 0x56, 0x01};
     fuota_server server = FUOTA_SERVER_NONE;
     fuota_plan plan = {.frag_size = 13, .parity = 1};
     fuota_down down = {0};
+    fuota_status status = {.missing = 9};
     uint8_t saved[FUOTA_SAVED_SERVER], field = 7;
     size_t count, k;
     int i;
     memset(saved, 0xEE, sizeof saved);
     SO(fuota_server_save(&server, saved, sizeof saved) == 0 && saved[0] == 0xEE);
+    SO(fuota_server_last_status(&server, 1, &status) == FUOTA_NO_OBJECT && status.missing == 9);
     SO(fuota_server_new(&server, &plan, devices, 1, image, length, &field) == FUOTA_DONE);
-    SO(fuota_server_save(&server, saved, 45) == 0 && saved[0] == 0xEE);
+    SO(fuota_server_save(&server, saved, 49) == 0 && saved[0] == 0xEE);
     for (i = 0; i < 6; i++) {
         count = fuota_server_save(&server, saved, sizeof saved);
-        SO(count == 46 && saved[46] == 0xEE && saved[5] == i + 1);
+        SO(count == 50 && saved[50] == 0xEE && saved[5] == i + 1);
         SO(i > 0 || !memcmp(saved, first, sizeof first));
         SO(fuota_server_restore(&server, &plan, devices, 1, image, length, saved, count, &field) == FUOTA_DONE);
         SO(fuota_server_next_fragment(&server, &down) == (i < 5 ? FUOTA_DONE : FUOTA_NOTHING));
         SO(i == 5 || (down.payload[1] == i + 1 && down.payload[2] == 0));
     }
+    SO(fuota_server_last_status(&server, 1, &status) == FUOTA_NOTHING && status.missing == 9);
+    SO(fuota_server_last_status(&server, 2, &status) == FUOTA_RANGE);
+    SO(fuota_server_uplink(&server, 1, 201, told, 5, 0, &down) == FUOTA_NOTHING);
+    SO(fuota_server_save(&server, saved, sizeof saved) == count && !memcmp(saved + 14, "\3\x34\x12\x56", 4));
+    SO(fuota_server_restore(&server, &plan, devices, 1, image, length, saved, count, &field) == FUOTA_DONE);
+    SO(fuota_server_last_status(&server, 1, &status) == FUOTA_DONE);
+    SO(status.received == 0x1234 && status.missing == 0x56 && status.norows);
     for (k = 0; k < count; k++) {
         saved[k] ^= 1;
         SO(fuota_server_restore(&server, &plan, devices, 1, image, length, saved, count, &field) == FUOTA_CORRUPT);

@@ -393,8 +393,18 @@ fuota_result fuota_server_uplink(fuota_server *handle, uint8_t dev, uint8_t port
 /* Where a device stands: FUOTA_DONE; FUOTA_RANGE where the plan has no such device; FUOTA_NO_OBJECT. */
 fuota_result fuota_server_ledger(fuota_server *handle, uint8_t dev, fuota_stage *out);
 
-/* The most bytes that a server saves: 44, and two for each of 64 devices. */
-#define FUOTA_SAVED_SERVER 172
+/* What a device told in its last FragSessionStatusAns for the campaign's session. */
+typedef struct fuota_status {
+    uint16_t received; /* fragments that it heard, repeats included, at most 16,383 */
+    uint8_t missing;   /* pieces that it missed, at most 255, which stands for more too */
+    bool norows;       /* it had too little memory for the matrix */
+} fuota_status;
+
+/* FUOTA_DONE; FUOTA_NOTHING where it told nothing; FUOTA_RANGE where the plan has no such device; FUOTA_NO_OBJECT. */
+fuota_result fuota_server_last_status(fuota_server *handle, uint8_t dev, fuota_status *out);
+
+/* The most bytes that a server saves: 44, and six for each of 64 devices. */
+#define FUOTA_SAVED_SERVER 428
 
 /* What the server knows, as bytes for fuota_server_restore, at the front of `into`; their count, and 0 where they
  * have no room, or without a server. They are saved before the payload of a call goes out. There is no key among

@@ -41,6 +41,7 @@ static uint8_t frame[FUOTA_MAX_FRAME];
 static size_t frame_length;
 static fuota_counts counts;
 static fuota_next next;
+static fuota_status status;
 static int most = -1;
 
 /* ---- The calls, each over the values above ---- */
@@ -87,6 +88,7 @@ static void server_uplink(void) {
     answer = fuota_server_uplink(&server, 1, up.port, up.payload, up.length, 1000, &down);
 }
 static void server_ledger(void) { answer = fuota_server_ledger(&server, 1, &stage); }
+static void server_last_status(void) { answer = fuota_server_last_status(&server, 1, &status); }
 static void server_save(void) { saved_length = fuota_server_save(&server, saved, sizeof saved); }
 static void server_restore(void) {
     answer = fuota_server_restore(&server, &plan, devices, 1, image, image_length, saved, saved_length, &field);
@@ -113,7 +115,7 @@ static call calls[] = {
     {server_new, "server_new", 0}, {server_free, "server_free", 0}, {server_next_fragment, "server_next_fragment", 0},
     {server_status_all, "server_status_all", 0}, {server_ask, "server_ask", 0}, {server_uplink, "server_uplink", 0},
     {server_ledger, "server_ledger", 0}, {server_save, "server_save", 0}, {server_restore, "server_restore", 0},
-    {server_frame, "server_frame", 0}, {library_version, "version", 0}, {decode, "decode", 0}};
+    {server_frame, "server_frame", 0}, {server_last_status, "server_last_status", 0}, {library_version, "version", 0}, {decode, "decode", 0}};
 
 enum { CALLS = sizeof calls / sizeof calls[0] };
 
@@ -188,6 +190,7 @@ static void play(int campaign) {
                 radio();
         made(server_status_all);
         radio();
+        made(server_last_status);
         made(server_save);
         made(server_restore);
     }

@@ -9,9 +9,10 @@ use Rattle.campaign_server.specs.declared.fragments.Spent.{Spent}
 use Rattle.campaign_server.specs.declared.fragments.Spent.TheVariants.{Fragments, Counts}
 use Rattle.campaign_server.specs.declared.stage.Request.{Request}
 use Rattle.campaign_server.specs.declared.stage.Request.TheVariants as request
+use Rattle.campaign_server.specs.declared.stage.LastStatus.{LastStatus}
 use Rattle.campaign_server.specs.declared.stage.Stage.{Stage}
 use Rattle.campaign_server.specs.declared.stage.Stage.TheVariants.{At, Updated, Refused}
-use Rattle.campaign_server.specs.Server.{ServerState, ledger}
+use Rattle.campaign_server.specs.Server.{ServerState, ledger, last_status}
 use Rattle.campaign_server.specs.Asking.{request_of}
 use Rattle.campaign_server.specs.Fragments.{next_fragment, after_fragment, status_to_all, after_status_to_all}
 use Rattle.campaign_server.specs.Framing.{has_frame, frame_for}
@@ -20,6 +21,7 @@ use Rattle.campaign_server.specs.Sent.{down_of, result_of, answer_of}
 use Rattle.c_base.specs.Answer.{done, nothing, range, refused, spent}
 use Rattle.c_base.specs.Bytes.{IsPut, Whole}
 use Rattle.fuota_server_c.specs.declared.sent.DownFields.{DownFields}
+use Rattle.fuota_server_c.specs.declared.last_status.StatusFields.{StatusFields}
 use Rattle.fuota_server_c.specs.declared.server.StageFields.{StageFields}
 
 -- ---- a payload
@@ -124,4 +126,19 @@ fields_of (Refused r bits) = record { stage = 2; request = request_number r; bit
 
 pub record TellsStage (x : ServerState) (dev : ℕ) (old new : StageFields) (answer : ℕ) : Type 0 where
   pub told : has_device x dev ≡ true → (answer ≡ done) × (Some new ≡ option_map fields_of (ledger x dev))
+  pub beyond : has_device x dev ≡ false → (answer ≡ range) × (new ≡ old)
+
+-- ---- the last status
+
+abbrev pub status_fields : LastStatus → StatusFields
+status_fields told = record { received = told.received; missing = told.missing; norows = told.norows }
+
+-- it is written where there is one
+abbrev pub IsStatusOut : Option LastStatus → (old new : StatusFields) → (answer : ℕ) → Type 0
+IsStatusOut None old new answer = (answer ≡ nothing) × (new ≡ old)
+IsStatusOut (Some told) old new answer = (answer ≡ done) × (new ≡ status_fields told)
+
+pub record TellsStatus (x : ServerState) (dev : ℕ) (old new : StatusFields) (answer : ℕ) : Type 0 where
+  pub told : has_device x dev ≡ true → (status : Option LastStatus) → last_status x dev ≡ Some status
+      → IsStatusOut status old new answer
   pub beyond : has_device x dev ≡ false → (answer ≡ range) × (new ≡ old)

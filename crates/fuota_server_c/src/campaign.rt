@@ -1,6 +1,8 @@
 //! A server that knows how many devices its plan has.
 
-use campaign_server::{Plan, RestoreError, SavedServer, Server, ServerError, Spent, Stage};
+use campaign_server::{
+    LastStatus, Plan, RestoreError, SavedServer, Server, ServerError, Spent, Stage,
+};
 use mc_frames::Frame;
 use package_grammar::Downlink;
 use std::alloc::Global;
@@ -28,7 +30,7 @@ impl Model for Campaign {
 impl Campaign {
     ghost use Rattle.std.specs.Prelude.{◌≡◌, Some, true};
     ghost use Rattle.image_slots.specs.Image.{is_image};
-    ghost use Rattle.campaign_server.specs.Server.{ledger};
+    ghost use Rattle.campaign_server.specs.Server.{ledger, last_status};
     ghost use Rattle.campaign_server.specs.Asking.{request_of};
     ghost use Rattle.campaign_server.specs.Framing.{has_frame, frame_for};
     ghost use Rattle.campaign_server.specs.Uplinks.{uplink_step};
@@ -137,6 +139,14 @@ impl Campaign {
         ensures answer { result ≡ answer_of (uplink_step self.old dev port payload.now t).answer }
     {
         self.server.uplink(dev, port, payload, t)
+    }
+
+    /// What a device told last of the campaign's session; None where it told nothing.
+    pub fn last_status(&self, dev: u8) -> Option<LastStatus>
+        requires { has_device self.now dev ≡ true }
+        ensures { Some result ≡ last_status self.now dev }
+    {
+        self.server.last_status(dev)
     }
 
     /// Where a device stands.

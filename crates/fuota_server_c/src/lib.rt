@@ -7,6 +7,7 @@
 
 mod campaign;
 mod framing;
+mod last_status;
 mod plan;
 mod saving;
 mod sent;

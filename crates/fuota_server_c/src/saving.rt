@@ -19,7 +19,7 @@ use campaign_server::RestoreError;
 use image_slots::is_image;
 use std::alloc::{AllocError, Global};
 
-/// What the server knows, as bytes for `fuota_server_restore`, to the front of `into`: 44 bytes and two for each device; their
+/// What the server knows, as bytes for `fuota_server_restore`, to the front of `into`: 44 bytes and six for each device; their
 /// count, and 0 where they have no room, or without a server.
 #[unsafe(no_mangle)]
 pub extern "C" fn fuota_server_save(
