@@ -16,14 +16,15 @@ use Rattle.device_core.specs.Deliver.{delivery}
 use Rattle.campaign_server.specs.declared.plan.PlanDevice.{PlanDevice}
 use Rattle.campaign_server.specs.declared.stage.Stage.{Stage}
 use Rattle.campaign_server.specs.Plan.{Plan}
-use Rattle.campaign_server.specs.Server.{ServerState}
+use Rattle.campaign_server.specs.Server.{ServerState, last_status}
 use Rattle.wire_base.specs.Numbered.{numbered}
 use Rattle.campaign_server.specs.Sent.{unicast_of}
 use Rattle.campaign_server.specs.Asking.{request_at, request_of}
 use Rattle.campaign_server.specs.Answers.{stage_after, stage_after_all}
 use Rattle.campaign_server.specs.Fragments.{next_fragment, after_fragment}
 use Rattle.campaign_server.specs.Time.{time_answer_to, time_answer}
-use Rattle.campaign_server.specs.Uplinks.{read_uplink, uplink_step}
+use Rattle.campaign_server.specs.Statuses.{status_after, status_after_all}
+use Rattle.campaign_server.specs.Uplinks.{told_or_none, read_uplink, uplink_step}
 use Rattle.script_lines.specs.declared.forms.Form.TheVariants.{Ask, Frag, Down, Up, End}
 use Rattle.script_lines.specs.Ranges.{in_range}
 use Rattle.campaign_generator.specs.Forms.{forms_of_turn}
@@ -184,12 +185,15 @@ down_plays w payload n d s may device sent to =
 
 -- the server after an answer of device n
 abbrev pub moved : ServerState → (n : ℕ) → Stage → Command → ServerState
-moved server n s a = record server { stages = slice_set server.stages (n - 1) (stage_after server.plan server.image s a) }
+moved server n s a = record server {
+  stages = slice_set server.stages (n - 1) (stage_after server.plan server.image s a);
+  statuses = slice_set server.statuses (n - 1) (status_after server.plan (told_or_none (last_status server n)) a);
+}
 
 answer_moves : (server : ServerState) (n p t : ℕ) (s : Stage) (a : Command) → numbered server.stages n ≡ Some s
     → reading_of p Upwards (canonical a) ≡ Ok (a ∷ []) → time_answer_to t a ≡ None
     → uplink_step server n p (canonical a) t ≡ record { server = moved server n s a; answer = Ok None }
-unfolding uplink_step read_uplink stage_after_all time_answer
+unfolding uplink_step read_uplink stage_after_all status_after_all time_answer
 answer_moves server n p t s a stage read silent = rw (read, stage, silent) refl
 
 abbrev pub upped : WorldState → (n : ℕ) → Stage → Command → WorldState
