@@ -13,10 +13,10 @@ COLOURS = {"version": (GREY, 0.25), "group": (GREY, 0.45), "fragments": (GREY, 0
 A_MINUTE = 60_000
 
 
-def line_of(campaign):
+def line_of(campaign, is_last=False):
     """How it stands, in a line."""
     counts = ", ".join(f"{name} {count}" for name, count in campaign.counts().items())
-    left = campaign.left()
+    left = 0 if is_last else campaign.left()
     fragments = f"fragments {campaign.sent} of {campaign.plan.fragments}" + (f", {duration(left)} left" if left else "")
     return f"{counts}; {fragments}"
 
@@ -30,13 +30,13 @@ class Progress:
     def show(self, campaign, is_last=False):
         now = campaign.carrier.now()
         if self.is_terminal:
-            line = line_of(campaign)
+            line = line_of(campaign, is_last)
             if line != self.shown or is_last:
                 self.stream.write(f"\r{line}\x1b[K" + ("\n" if is_last else ""))
                 self.stream.flush()
             self.shown = line
         elif is_last or self.last is None or now - self.last >= A_MINUTE:
-            self.stream.write(f"{moment_of(now)}: {line_of(campaign)}\n")
+            self.stream.write(f"{moment_of(now)}: {line_of(campaign, is_last)}\n")
             self.stream.flush()
             self.last = now
 
