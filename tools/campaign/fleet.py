@@ -125,7 +125,7 @@ class Rehearsal(Carrier):
     name = "rehearsal"
 
     def __init__(self, plan, library, loss, seed):
-        self.t = plan.window.opens - 40 * plan.retry.distance if plan.window else super().now()
+        self.t = plan.window.opens - 15 * plan.retry.distance if plan.window else super().now()
         self.fleet = Fleet(plan, library, self.t, plan.retry.distance // 2, loss, seed)
 
     def now(self):

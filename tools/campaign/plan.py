@@ -10,13 +10,12 @@ from dataclasses import dataclass
 
 import fuota
 
-from .theory import DATA_RATES, FRAME, MAX_CODED, NoPlan, air_time, chain_of, complete_shares
+from .theory import (DATA_RATES, FRAGMENT_HEAD, FRAME, MAX_CODED, NoPlan, air_time, chain_of, complete_shares, duration,
+                     time_of)
 
 # Unix time of the GPS epoch, and the leap seconds since, in ms.
 GPS_EPOCH, LEAP = 315_964_800_000, 18_000
 BEACONS = 128
-# Bytes that a fragment has beside its piece.
-FRAGMENT_HEAD = 3
 MAX_IMAGE, MAX_PIECES, MAX_DEVICES = 262_144, 4_096, 64
 NEEDED = object()
 
@@ -33,16 +32,6 @@ def gps(t):
 def moment_of(t):
     """ms of Unix time as a text."""
     return datetime.datetime.fromtimestamp(t // 1000, datetime.timezone.utc).strftime("%Y-%m-%d %H:%M:%S UTC")
-
-
-def duration(ms):
-    """So long, in its two largest units."""
-    seconds = round(ms / 1000)
-    if ms < 10_000:
-        return f"{ms / 1000:.3g} s"
-    parts = [(seconds // 86_400, "d"), (seconds // 3_600 % 24, "h"), (seconds // 60 % 60, "min"), (seconds % 60, "s")]
-    first = next(k for k, (count, _) in enumerate(parts) if count)
-    return " ".join(f"{count} {unit}" for count, unit in parts[first:first + 2] if count)
 
 
 # ---- What a plan is
@@ -158,7 +147,7 @@ class Plan:
         """The ms that all fragments need, and those that the window has for them; None where there is no window."""
         air = self.air(FRAGMENT_HEAD + self.size, self.group is not None)
         copies = 1 if self.group else len(self.devices)
-        needs = (self.fragments * copies - 1) * self.distance(air) + air
+        needs = time_of(self.fragments * copies, self.distance(air), air)
         return needs, self.window and self.window.length - 2 * self.window.guard
 
     def does_not_fit(self):

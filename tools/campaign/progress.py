@@ -2,8 +2,9 @@
 import pathlib
 
 from . import state
-from .plan import Wrong, duration, moment_of
+from .plan import Wrong, moment_of
 from .svg import BLUE, GREEN, GREY, ORANGE, drawn_path, picture, text
+from .theory import duration
 
 RED = "#cf222e"
 # What is drawn of a stage: its colour and how opaque it is.
@@ -110,7 +111,7 @@ class Kept:
 
 # ---- The picture
 
-LEFT, ACROSS, UPPER, ROW = 130, 600, 84, 18
+LEFT, ACROSS, UPPER, ROW = 146, 600, 84, 18
 
 
 def ticks(begin, end):
@@ -122,7 +123,9 @@ def ticks(begin, end):
 
 def picture_of(kept):
     """A row a device, its stages over time, and when fragments went out."""
-    begin, end = kept.lines[0]["t"], max(kept.lines[-1]["t"], kept.lines[0]["t"] + 1)
+    begin, last = kept.lines[0]["t"], kept.lines[-1]["t"]
+    # (somewhat more, so that the last stages are seen)
+    end = last + (last - begin) // 40 + 1
     bottom = UPPER + ROW * (len(kept.devices) + 1)
 
     def place(t):

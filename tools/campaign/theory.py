@@ -91,6 +91,8 @@ DATA_RATES = {0: (12, 125, 51), 1: (11, 125, 51), 2: (10, 125, 51), 3: (9, 125, 
               6: (7, 250, 242)}
 # Bytes of a frame beside its payload: MHDR, FHDR without options, FPort, MIC.
 FRAME = 13
+# Bytes of a fragment beside its piece.
+FRAGMENT_HEAD = 3
 
 
 def air_time(data_rate, length):
@@ -100,3 +102,23 @@ def air_time(data_rate, length):
     slow = factor >= 11 and bandwidth == 125
     blocks = max(0, math.ceil((8 * length - 4 * factor + 28) / (4 * (factor - 2 * slow))))
     return (8 + 4.25 + 8 + 5 * blocks) * 2 ** factor / bandwidth
+
+
+def time_of(fragments, distance, air):
+    """The ms from the first of so many fragments to the end of the last one."""
+    return (fragments - 1) * distance + air
+
+
+def fragments_within(ms, distance, air):
+    """How many fragments have room in so many ms."""
+    return 0 if ms < air else 1 + int((ms - air) // distance)
+
+
+def duration(ms):
+    """So long, in its two largest units."""
+    seconds = round(ms / 1000)
+    if ms < 10_000:
+        return f"{ms / 1000:.3g} s"
+    parts = [(seconds // 86_400, "d"), (seconds // 3_600 % 24, "h"), (seconds // 60 % 60, "min"), (seconds % 60, "s")]
+    first = next(k for k, (count, _) in enumerate(parts) if count)
+    return " ".join(f"{count} {unit}" for count, unit in parts[first:first + 2] if count)
