@@ -1,5 +1,6 @@
 """What the tests share: the words that they are called by, the program that they try, and what their tries gave."""
 import argparse
+import os
 import pathlib
 import subprocess
 import sys
@@ -62,3 +63,14 @@ class Tries:
         """Prints the counts, and gives the status: 0 where there was a try and none failed."""
         print(f"{self.passed} passed, {self.failed} failed")
         return 1 if self.failed or not self.passed else 0
+
+
+def library_of(word, place):
+    """The path of libfuota.so: the word's, the environment's, or one that tools/c_library makes in a folder."""
+    named = word or os.environ.get("FUOTA_LIBRARY")
+    if named:
+        if not pathlib.Path(named).is_file():
+            sys.exit(f"{named} is no library")
+        return pathlib.Path(named).resolve()
+    subprocess.run([TOP / "tools" / "c_library", place], check=True)
+    return pathlib.Path(place) / "libfuota.so"
