@@ -21,6 +21,7 @@ statuses = record {
   whole = refl;
   other_index = refl;
   own_index = refl;
+  lower_index = refl;
   last = refl;
   other_command = refl;
   refused = refl;

@@ -28,6 +28,7 @@ pub record StatusSteps : Type 0 where
   pub other_index : tells after_told 1 201 (0x01 ∷ 0x04 ∷ 0x40 ∷ 0x03 ∷ 0x00 ∷ []) ≡ Some told ∷ []
   pub own_index : tells (at_stage elsewhere (At Status)) 1 201 (0x01 ∷ 0x04 ∷ 0x80 ∷ 0x03 ∷ 0x00 ∷ [])
       ≡ Some (record { received = 4; missing = 3; norows = false }) ∷ []
+  pub lower_index : tells (at_stage elsewhere (At Status)) 1 201 (0x01 ∷ 0x04 ∷ 0x40 ∷ 0x03 ∷ 0x00 ∷ []) ≡ None ∷ []
   -- the last of several, and another command changes nothing
   pub last : tells after_told 1 201 (0x01 ∷ 0x04 ∷ 0x00 ∷ 0x03 ∷ 0x00 ∷ 0x01 ∷ 0x05 ∷ 0x00 ∷ 0x02 ∷ 0x00 ∷ [])
       ≡ Some (record { received = 5; missing = 2; norows = false }) ∷ []
