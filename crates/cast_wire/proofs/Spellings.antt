@@ -1,13 +1,14 @@
 -- The laws of spellings, over the definitions alone.
-use Rattle.std.proofs.Common.{◌≡◌, ℕ, ◌+◌, ◌<◌, true, false, List, [], ◌∷◌, ◌++◌, length, Option, Some, None, refl, sym, ap, ◌∙◌, arith, length-append}
-use Rattle.std.proofs.lemmas.List.{nil_from_length}
+use Rattle.std.proofs.Common.{◌≡◌, ℕ, ◌+◌, ◌<◌, true, false, List, [], ◌∷◌, ◌++◌, length, Option, Some, None, refl, arith}
 use Rattle.wire_base.specs.declared.refusal.Direction.{Direction}
 use Rattle.wire_base.specs.Rows.{IsListed, takes_rest, is_well_formed}
-use Rattle.wire_base.proofs.RowLaws.{row_written, row_before_more}
+use Rattle.wire_base.proofs.RowLaws.{row_written}
+use Rattle.wire_base.proofs.Spelled as spelled
 use Rattle.cast_wire.specs.declared.cmd.Cmd.{Cmd}
 use Rattle.cast_wire.specs.declared.cmd.Cmd.TheVariants.{PackageVersionReq, PackageVersionAns, FragSessionStatusReq, FragSessionStatusAns, FragSessionSetupReq, FragSessionSetupAns, FragSessionDeleteReq, FragSessionDeleteAns, DataFragment, McGroupStatusReq, McGroupStatusAns, McGroupSetupReq, McGroupSetupAns, McGroupDeleteReq, McGroupDeleteAns, McClassCSessionReq, McClassCSessionAns, McClassBSessionReq, McClassBSessionAns}
 use Rattle.cast_wire.specs.declared.group_list.GroupAddress.{GroupAddress}
-use Rattle.cast_wire.specs.Table.{row, group_parts, start_parts, Spells, IsValid, canonical}
+use Rattle.cast_wire.specs.Table.{row, group_parts, start_parts, IsWhole, Spells, IsValid, canonical}
+use Rattle.cast_wire.specs.Reading.{reading}
 use Rattle.cast_wire.proofs.Only.{only}
 
 groups_formed : (groups : List GroupAddress) → is_well_formed (group_parts groups) ≡ true
@@ -46,17 +47,9 @@ written c port dir before after valid listed alone =
     let formed = row_formed c in
     record { listed = listed; lies = row_written (row c) before after formed.0 valid.fields formed.1 alone; whole = valid.whole }
 
-some_same : (x y : Cmd × ℕ) → Some x ≡ Some y → x ≡ y
-some_same x y same = cc
-
 pub one : (c d : Cmd) (port : ℕ) (dir : Direction) (bytes : List ℕ) (at next end : ℕ) → Spells c port dir bytes at next → Spells d port dir bytes at end → (c ≡ d) × (next ≡ end)
-one c d port dir bytes at next end first second =
-    let same = some_same (c, next) (d, end) (sym (only c port dir bytes at next first) ∙ only d port dir bytes at end second) in
-    (ap (λ (x : Cmd × ℕ). x.0) same, ap (λ (x : Cmd × ℕ). x.1) same)
+one = spelled.one row IsWhole reading only
 
 pub none_begins : (c d : Cmd) (port : ℕ) (dir : Direction) (bytes more : List ℕ) → takes_rest (row c).parts ≡ false
     → Spells c port dir bytes 0 (length bytes) → Spells d port dir (bytes ++ more) 0 (length (bytes ++ more)) → more ≡ []
-none_begins c d port dir bytes more closed first second =
-    let still : Spells c port dir (bytes ++ more) 0 (length bytes) = record { listed = first.listed; lies = row_before_more (row c) bytes more 0 (length bytes) closed first.lies; whole = first.whole } in
-    let same = one c d port dir (bytes ++ more) 0 (length bytes) (length (bytes ++ more)) still second in
-    nil_from_length more (omega (arith, same.1, length-append bytes more))
+none_begins = spelled.none_begins row IsWhole reading only

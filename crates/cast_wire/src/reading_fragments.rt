@@ -26,10 +26,7 @@ pub fn read_fragment_down(bytes: &[u8], at: u16) -> Result<(Cmd<'_>, u16), Refus
     let end = bytes.len() as u16;
     match u8_at(bytes, at) {
         PACKAGE_VERSION => Ok((Cmd::PackageVersionReq, at + NO_BODY_LEN)),
-        SESSION_STATUS => {
-            if end < at + ONE_BYTE_LEN {
-                return Err(Refusal::short(bytes));
-            }
+        SESSION_STATUS if at + ONE_BYTE_LEN <= end => {
             let fields = u8_at(bytes, at + 1);
             let request = Cmd::FragSessionStatusReq {
                 index: fields >> 1 & 3,
@@ -37,10 +34,7 @@ pub fn read_fragment_down(bytes: &[u8], at: u16) -> Result<(Cmd<'_>, u16), Refus
             };
             Ok((request, at + ONE_BYTE_LEN))
         }
-        SESSION_SETUP => {
-            if end < at + SETUP_REQUEST_LEN {
-                return Err(Refusal::short(bytes));
-            }
+        SESSION_SETUP if at + SETUP_REQUEST_LEN <= end => {
             let session = u8_at(bytes, at + 1);
             let control = u8_at(bytes, at + 5);
             let setup = Cmd::FragSessionSetupReq {
@@ -55,17 +49,11 @@ pub fn read_fragment_down(bytes: &[u8], at: u16) -> Result<(Cmd<'_>, u16), Refus
             };
             Ok((setup, at + SETUP_REQUEST_LEN))
         }
-        SESSION_DELETE => {
-            if end < at + ONE_BYTE_LEN {
-                return Err(Refusal::short(bytes));
-            }
+        SESSION_DELETE if at + ONE_BYTE_LEN <= end => {
             let index = u8_at(bytes, at + 1) & 3;
             Ok((Cmd::FragSessionDeleteReq { index }, at + ONE_BYTE_LEN))
         }
-        DATA_FRAGMENT => {
-            if end <= at + FRAGMENT_HEAD_LEN {
-                return Err(Refusal::short(bytes));
-            }
+        DATA_FRAGMENT if at + FRAGMENT_HEAD_LEN < end => {
             let numbers = u16_at(bytes, at + 1);
             let fragment = Cmd::DataFragment {
                 index: (numbers >> 14) as u8,
@@ -74,6 +62,9 @@ pub fn read_fragment_down(bytes: &[u8], at: u16) -> Result<(Cmd<'_>, u16), Refus
             };
             Ok((fragment, end))
         }
+        SESSION_STATUS | SESSION_SETUP | SESSION_DELETE | DATA_FRAGMENT => Err(Refusal::short(
+            bytes,
+        )),
         _ => Err(Refusal::unknown(at)),
     }
 }
@@ -89,20 +80,14 @@ pub fn read_fragment_up(bytes: &[u8], at: u16) -> Result<(Cmd<'_>, u16), Refusal
 {
     let end = bytes.len() as u16;
     match u8_at(bytes, at) {
-        PACKAGE_VERSION => {
-            if end < at + VERSION_ANSWER_LEN {
-                return Err(Refusal::short(bytes));
-            }
+        PACKAGE_VERSION if at + VERSION_ANSWER_LEN <= end => {
             let version = Cmd::PackageVersionAns {
                 identifier: u8_at(bytes, at + 1),
                 version: u8_at(bytes, at + 2),
             };
             Ok((version, at + VERSION_ANSWER_LEN))
         }
-        SESSION_STATUS => {
-            if end < at + STATUS_ANSWER_LEN {
-                return Err(Refusal::short(bytes));
-            }
+        SESSION_STATUS if at + STATUS_ANSWER_LEN <= end => {
             let numbers = u16_at(bytes, at + 1);
             let answer = Cmd::FragSessionStatusAns {
                 index: (numbers >> 14) as u8,
@@ -112,10 +97,7 @@ pub fn read_fragment_up(bytes: &[u8], at: u16) -> Result<(Cmd<'_>, u16), Refusal
             };
             Ok((answer, at + STATUS_ANSWER_LEN))
         }
-        SESSION_SETUP => {
-            if end < at + ONE_BYTE_LEN {
-                return Err(Refusal::short(bytes));
-            }
+        SESSION_SETUP if at + ONE_BYTE_LEN <= end => {
             let status = u8_at(bytes, at + 1);
             let answer = Cmd::FragSessionSetupAns {
                 index: status >> 6,
@@ -126,10 +108,7 @@ pub fn read_fragment_up(bytes: &[u8], at: u16) -> Result<(Cmd<'_>, u16), Refusal
             };
             Ok((answer, at + ONE_BYTE_LEN))
         }
-        SESSION_DELETE => {
-            if end < at + ONE_BYTE_LEN {
-                return Err(Refusal::short(bytes));
-            }
+        SESSION_DELETE if at + ONE_BYTE_LEN <= end => {
             let status = u8_at(bytes, at + 1);
             let answer = Cmd::FragSessionDeleteAns {
                 index: status & 3,
@@ -137,6 +116,9 @@ pub fn read_fragment_up(bytes: &[u8], at: u16) -> Result<(Cmd<'_>, u16), Refusal
             };
             Ok((answer, at + ONE_BYTE_LEN))
         }
+        PACKAGE_VERSION | SESSION_STATUS | SESSION_SETUP | SESSION_DELETE => Err(Refusal::short(
+            bytes,
+        )),
         _ => Err(Refusal::unknown(at)),
     }
 }

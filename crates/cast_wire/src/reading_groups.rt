@@ -28,17 +28,11 @@ pub fn read_group_down(bytes: &[u8], at: u16) -> Result<(Cmd<'_>, u16), Refusal>
     let end = bytes.len() as u16;
     match u8_at(bytes, at) {
         PACKAGE_VERSION => Ok((Cmd::PackageVersionReq, at + NO_BODY_LEN)),
-        GROUP_STATUS => {
-            if end < at + ONE_BYTE_LEN {
-                return Err(Refusal::short(bytes));
-            }
+        GROUP_STATUS if at + ONE_BYTE_LEN <= end => {
             let mask = u8_at(bytes, at + 1) & 15;
             Ok((Cmd::McGroupStatusReq { mask }, at + ONE_BYTE_LEN))
         }
-        GROUP_SETUP => {
-            if end < at + GROUP_SETUP_REQUEST_LEN {
-                return Err(Refusal::short(bytes));
-            }
+        GROUP_SETUP if at + GROUP_SETUP_REQUEST_LEN <= end => {
             let setup = Cmd::McGroupSetupReq {
                 id: u8_at(bytes, at + 1) & 3,
                 addr: u32_at(bytes, at + 2),
@@ -48,17 +42,11 @@ pub fn read_group_down(bytes: &[u8], at: u16) -> Result<(Cmd<'_>, u16), Refusal>
             };
             Ok((setup, at + GROUP_SETUP_REQUEST_LEN))
         }
-        GROUP_DELETE => {
-            if end < at + ONE_BYTE_LEN {
-                return Err(Refusal::short(bytes));
-            }
+        GROUP_DELETE if at + ONE_BYTE_LEN <= end => {
             let id = u8_at(bytes, at + 1) & 3;
             Ok((Cmd::McGroupDeleteReq { id }, at + ONE_BYTE_LEN))
         }
-        CLASS_C_SESSION => {
-            if end < at + CLASS_SESSION_REQUEST_LEN {
-                return Err(Refusal::short(bytes));
-            }
+        CLASS_C_SESSION if at + CLASS_SESSION_REQUEST_LEN <= end => {
             let request = Cmd::McClassCSessionReq {
                 id: u8_at(bytes, at + 1) & 3,
                 time: u32_at(bytes, at + 2),
@@ -68,10 +56,7 @@ pub fn read_group_down(bytes: &[u8], at: u16) -> Result<(Cmd<'_>, u16), Refusal>
             };
             Ok((request, at + CLASS_SESSION_REQUEST_LEN))
         }
-        CLASS_B_SESSION => {
-            if end < at + CLASS_SESSION_REQUEST_LEN {
-                return Err(Refusal::short(bytes));
-            }
+        CLASS_B_SESSION if at + CLASS_SESSION_REQUEST_LEN <= end => {
             let slots = u8_at(bytes, at + 6);
             let request = Cmd::McClassBSessionReq {
                 id: u8_at(bytes, at + 1) & 3,
@@ -83,6 +68,9 @@ pub fn read_group_down(bytes: &[u8], at: u16) -> Result<(Cmd<'_>, u16), Refusal>
             };
             Ok((request, at + CLASS_SESSION_REQUEST_LEN))
         }
+        GROUP_STATUS | GROUP_SETUP | GROUP_DELETE | CLASS_C_SESSION | CLASS_B_SESSION => Err(
+            Refusal::short(bytes),
+        ),
         _ => Err(Refusal::unknown(at)),
     }
 }
@@ -98,20 +86,14 @@ pub fn read_group_up(bytes: &[u8], at: u16) -> Result<(Cmd<'_>, u16), Refusal>
 {
     let end = bytes.len() as u16;
     match u8_at(bytes, at) {
-        PACKAGE_VERSION => {
-            if end < at + VERSION_ANSWER_LEN {
-                return Err(Refusal::short(bytes));
-            }
+        PACKAGE_VERSION if at + VERSION_ANSWER_LEN <= end => {
             let version = Cmd::PackageVersionAns {
                 identifier: u8_at(bytes, at + 1),
                 version: u8_at(bytes, at + 2),
             };
             Ok((version, at + VERSION_ANSWER_LEN))
         }
-        GROUP_STATUS => {
-            if end < at + GROUPS_HEAD_LEN {
-                return Err(Refusal::short(bytes));
-            }
+        GROUP_STATUS if at + GROUPS_HEAD_LEN <= end => {
             let fields = u8_at(bytes, at + 1);
             let mask = fields & 15;
             let count = mask.count_ones() as u16;
@@ -126,10 +108,7 @@ pub fn read_group_up(bytes: &[u8], at: u16) -> Result<(Cmd<'_>, u16), Refusal>
             };
             Ok((answer, at + (GROUPS_HEAD_LEN + GROUP_LEN * count)))
         }
-        GROUP_SETUP => {
-            if end < at + ONE_BYTE_LEN {
-                return Err(Refusal::short(bytes));
-            }
+        GROUP_SETUP if at + ONE_BYTE_LEN <= end => {
             let status = u8_at(bytes, at + 1);
             let answer = Cmd::McGroupSetupAns {
                 id: status & 3,
@@ -137,10 +116,7 @@ pub fn read_group_up(bytes: &[u8], at: u16) -> Result<(Cmd<'_>, u16), Refusal>
             };
             Ok((answer, at + ONE_BYTE_LEN))
         }
-        GROUP_DELETE => {
-            if end < at + ONE_BYTE_LEN {
-                return Err(Refusal::short(bytes));
-            }
+        GROUP_DELETE if at + ONE_BYTE_LEN <= end => {
             let status = u8_at(bytes, at + 1);
             let answer = Cmd::McGroupDeleteAns {
                 id: status & 3,
@@ -148,10 +124,7 @@ pub fn read_group_up(bytes: &[u8], at: u16) -> Result<(Cmd<'_>, u16), Refusal>
             };
             Ok((answer, at + ONE_BYTE_LEN))
         }
-        CLASS_C_SESSION => {
-            if end < at + ONE_BYTE_LEN {
-                return Err(Refusal::short(bytes));
-            }
+        CLASS_C_SESSION if at + ONE_BYTE_LEN <= end => {
             let status = u8_at(bytes, at + 1);
             let (id, undefined) = (status & 3, status >> 4 & 1 == 1);
             let (freq_error, dr_error) = (status >> 3 & 1 == 1, status >> 2 & 1 == 1);
@@ -178,10 +151,7 @@ pub fn read_group_up(bytes: &[u8], at: u16) -> Result<(Cmd<'_>, u16), Refusal>
             };
             Ok((answer, at + START_ANSWER_LEN))
         }
-        CLASS_B_SESSION => {
-            if end < at + ONE_BYTE_LEN {
-                return Err(Refusal::short(bytes));
-            }
+        CLASS_B_SESSION if at + ONE_BYTE_LEN <= end => {
             let status = u8_at(bytes, at + 1);
             let (id, undefined) = (status & 3, status >> 4 & 1 == 1);
             let (freq_error, dr_error) = (status >> 3 & 1 == 1, status >> 2 & 1 == 1);
@@ -208,6 +178,12 @@ pub fn read_group_up(bytes: &[u8], at: u16) -> Result<(Cmd<'_>, u16), Refusal>
             };
             Ok((answer, at + START_ANSWER_LEN))
         }
+        PACKAGE_VERSION
+        | GROUP_STATUS
+        | GROUP_SETUP
+        | GROUP_DELETE
+        | CLASS_C_SESSION
+        | CLASS_B_SESSION => Err(Refusal::short(bytes)),
         _ => Err(Refusal::unknown(at)),
     }
 }

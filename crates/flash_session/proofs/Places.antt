@@ -19,6 +19,33 @@ gates_kept c d at n most same gates = record {
   shut = λ k le lt is. gates.shut k le lt (sym (same k lt) ∙ is);
 }
 
+-- the gate after those that are open has whatever byte: as many are open as before, or one more
+gates_torn : (c d : List ℕ) (at n most more : ℕ) → more ≡ n + 1 → n < most → SameOutside (at + n) 1 c d → GatesOpen c at n most → GatesOpen d at n most ⊎ GatesOpen d at more most
+gates_torn c d at n most more is room same gates =
+    let others : (k : ℕ) → k ≢ n → byte_at d (at + k) ≡ byte_at c (at + k) = λ (k : ℕ) (other : k ≢ n).
+    elim (cases_lt k n) [
+      | inl lt ↦ same.below (at + k) (omega (arith, lt))
+      | inr le ↦ same.above (at + k) (omega (arith, le, other))
+    ] in
+    elim (cases_eq (byte_at d (at + n)) open_gate) [
+      | inl opened ↦ inr (record {
+        few = omega (arith, is, room);
+        opened = λ k lt. elim (cases_eq k n) [
+          | inl here ↦ subst (λ (j : ℕ). byte_at d (at + j) ≡ open_gate) (sym here) opened
+          | inr other ↦ others k other ∙ gates.opened k (omega (arith, is, lt, other))
+        ];
+        shut = λ k le lt stray. gates.shut k (omega (arith, is, le)) lt (sym (others k (λ here. omega (arith, is, here, le))) ∙ stray);
+      })
+      | inr shut ↦ inl (record {
+        few = gates.few;
+        opened = λ k lt. others k (λ here. omega (arith, here, lt)) ∙ gates.opened k lt;
+        shut = λ k le lt. elim (cases_eq k n) [
+          | inl here ↦ subst (λ (j : ℕ). byte_at d (at + j) ≢ open_gate) (sym here) shut
+          | inr other ↦ λ stray. gates.shut k le lt (sym (others k other) ∙ stray)
+        ];
+      })
+    ]
+
 pub length-spelled : (f : Fragment) → length (spelled f) ≡ 10 + length f.part
 unfolding spelled
 length-spelled f = omega (arith, length-append (to_le_bytes w16 f.number ++ to_le_bytes w64 f.mark) f.part, length-append (to_le_bytes w16 f.number) (to_le_bytes w64 f.mark))
@@ -85,45 +112,19 @@ module _ (base span : ℕ) (s : Stored) (fits : Fits span s) where
   unfolding with_record
   gate_torn f c d room sized lies written same =
       let n : ℕ = length s.records in
-      let gate : ℕ = gates_at base + n in
-      let low : gate < base + 8257 = omega (arith, room, fits.most) in
-      let others : (k : ℕ) → k ≢ n → byte_at d (gates_at base + k) ≡ byte_at c (gates_at base + k) = λ (k : ℕ) (other : k ≢ n).
-      elim (cases_lt k n) [
-        | inl lt ↦ same.below (gates_at base + k) (omega (arith, lt))
-        | inr le ↦ same.above (gates_at base + k) (omega (arith, le, other))
-      ] in
+      let low : gates_at base + n < base + 8257 = omega (arith, room, fits.most) in
       let header : byte_at d base ≡ open_gate = same.below base (omega arith) ∙ lies.header in
       let body : SpelledAt d (body_at base) s.body = spelled_kept c d (body_at base) s.body (λ i lt. same.below (body_at base + i) (omega (arith, lt, fits.body))) lies.body in
       let tallies : GatesOpen d (tallies_at base) s.tallies most_tallies = gates_kept c d (tallies_at base) s.tallies most_tallies (λ i lt. same.above (tallies_at base + i) (omega (arith, low))) lies.tallies in
       let records : RecordsLie d base s.size s.records = records_kept c d base s.size s.records (λ i le lt. same.above i (omega (arith, low, le))) lies.records in
-      elim (cases_eq (byte_at d gate) open_gate) [
-        | inl opened ↦ inr (record {
+      elim (gates_torn c d (gates_at base) n s.most (suc n) (omega arith) room same lies.gates) [
+        | inl gates ↦ inl (record { header = header; body = body; gates = gates; tallies = tallies; records = records })
+        | inr gates ↦ inr (record {
           header = header;
           body = body;
-          gates = record {
-            few = omega (arith, room);
-            opened = λ k lt. elim (cases_eq k n) [
-              | inl here ↦ subst (λ (j : ℕ). byte_at d (gates_at base + j) ≡ open_gate) (sym here) opened
-              | inr other ↦ others k other ∙ lies.gates.opened k (omega (arith, lt, other))
-            ];
-            shut = λ k le lt is. lies.gates.shut k (omega (arith, le)) lt (sym (others k (λ here. omega (arith, here, le))) ∙ is);
-          };
+          gates = gates;
           tallies = tallies;
           records = (sized, spelled_kept c d (record_at base s.size n) (spelled f) (λ i lt. same.above (record_at base s.size n + i) (omega (arith, low))) written, records);
-        })
-        | inr shut ↦ inl (record {
-          header = header;
-          body = body;
-          gates = record {
-            few = lies.gates.few;
-            opened = λ k lt. others k (λ here. omega (arith, here, lt)) ∙ lies.gates.opened k lt;
-            shut = λ k le lt. elim (cases_eq k n) [
-              | inl here ↦ subst (λ (j : ℕ). byte_at d (gates_at base + j) ≢ open_gate) (sym here) shut
-              | inr other ↦ λ is. lies.gates.shut k le lt (sym (others k other) ∙ is)
-            ];
-          };
-          tallies = tallies;
-          records = records;
         })
       ]
 
@@ -131,44 +132,11 @@ module _ (base span : ℕ) (s : Stored) (fits : Fits span s) where
   pub tally_torn : (c d : List ℕ) → s.tallies < most_tallies → Lies base s c → SameOutside (tallies_at base + s.tallies) 1 c d → Lies base s d ⊎ Lies base (with_tally s) d
   unfolding with_tally
   tally_torn c d room lies same =
-      let n : ℕ = s.tallies in
-      let gate : ℕ = tallies_at base + n in
-      let others : (k : ℕ) → k ≢ n → byte_at d (tallies_at base + k) ≡ byte_at c (tallies_at base + k) = λ (k : ℕ) (other : k ≢ n).
-      elim (cases_lt k n) [
-        | inl lt ↦ same.below (tallies_at base + k) (omega (arith, lt))
-        | inr le ↦ same.above (tallies_at base + k) (omega (arith, le, other))
-      ] in
       let header : byte_at d base ≡ open_gate = same.below base (omega arith) ∙ lies.header in
       let body : SpelledAt d (body_at base) s.body = spelled_kept c d (body_at base) s.body (λ i lt. same.below (body_at base + i) (omega (arith, lt, fits.body))) lies.body in
       let gates : GatesOpen d (gates_at base) (length s.records) s.most = gates_kept c d (gates_at base) (length s.records) s.most (λ i lt. same.below (gates_at base + i) (omega (arith, lt, fits.most))) lies.gates in
       let records : RecordsLie d base s.size s.records = records_kept c d base s.size s.records (λ i le lt. same.above i (omega (arith, room, le))) lies.records in
-      elim (cases_eq (byte_at d gate) open_gate) [
-        | inl opened ↦ inr (record {
-          header = header;
-          body = body;
-          gates = gates;
-          tallies = record {
-            few = omega (arith, room);
-            opened = λ k lt. elim (cases_eq k n) [
-              | inl here ↦ subst (λ (j : ℕ). byte_at d (tallies_at base + j) ≡ open_gate) (sym here) opened
-              | inr other ↦ others k other ∙ lies.tallies.opened k (omega (arith, lt, other))
-            ];
-            shut = λ k le lt is. lies.tallies.shut k (omega (arith, le)) lt (sym (others k (λ here. omega (arith, here, le))) ∙ is);
-          };
-          records = records;
-        })
-        | inr shut ↦ inl (record {
-          header = header;
-          body = body;
-          gates = gates;
-          tallies = record {
-            few = lies.tallies.few;
-            opened = λ k lt. others k (λ here. omega (arith, here, lt)) ∙ lies.tallies.opened k lt;
-            shut = λ k le lt. elim (cases_eq k n) [
-              | inl here ↦ subst (λ (j : ℕ). byte_at d (tallies_at base + j) ≢ open_gate) (sym here) shut
-              | inr other ↦ λ is. lies.tallies.shut k le lt (sym (others k other) ∙ is)
-            ];
-          };
-          records = records;
-        })
+      elim (gates_torn c d (tallies_at base) s.tallies most_tallies (with_tally s).tallies (omega arith) room same lies.tallies) [
+        | inl tallies ↦ inl (record { header = header; body = body; gates = gates; tallies = tallies; records = records })
+        | inr tallies ↦ inr (record { header = header; body = body; gates = gates; tallies = tallies; records = records })
       ]

@@ -32,6 +32,20 @@ even_less left even some =
 some_bit : (m t : ℕ) → bit_at m t ≡ 1 → m ≢ 0
 some_bit m t on none = absurd (omega (arith, on, ap (λ n. bit_at n t) none, bit_at-zero t))
 
+-- where the lowest bit is no unit, the number without it has the half without it for its half
+record IsHigher (t left : ℕ) : Type 0 where
+  even : left % 2 ≡ 0
+  later : bit_at (left / 2) t ≡ 1
+  none : bit_and left (left - 1) % 2 ≡ 0
+  half : bit_and left (left - 1) / 2 ≡ bit_and (left / 2) (left / 2 - 1)
+
+higher : (t left : ℕ) → bit_at left (suc t) ≡ 1 → ((i : ℕ) → i < suc t → bit_at left i ≡ 0) → IsHigher t left
+higher t left on zeros =
+    let even : left % 2 ≡ 0 = sym (bit_at_lowest left) ∙ zeros 0 (omega arith) in
+    let later : bit_at (left / 2) t ≡ 1 = sym (bit_at-suc left t) ∙ on in
+    let less = even_less left even (some_bit (left / 2) t later) in
+    record { even = even; later = later; none = omega (arith, less); half = omega (arith, less) }
+
 -- its piece stands before those of the others
 lowest_first : (t left : ℕ) (block : List (List ℕ)) → bit_at left t ≡ 1 → ((i : ℕ) → i < t → bit_at left i ≡ 0) → t < length block
     → pieces_at left block ≡ get_or block t [] ∷ pieces_at (bit_and left (left - 1)) block
@@ -46,15 +60,10 @@ lowest_first zero left (p ∷ ps) on zeros lt =
     ∙ ap (λ l. p ∷ l) (sym (ap₂ (λ r h. cond (r == 1) (p ∷ pieces_at h ps) (pieces_at h ps)) even half))
 lowest_first (suc t) left (p ∷ ps) on zeros lt =
     let m : ℕ = left / 2 in
-    let even : left % 2 ≡ 0 = sym (bit_at_lowest left) ∙ zeros 0 (omega arith) in
-    let later : bit_at m t ≡ 1 = sym (bit_at-suc left t) ∙ on in
-    let less = even_less left even (some_bit m t later) in
-    let next : ℕ = bit_and left (left - 1) in
-    let none : next % 2 ≡ 0 = omega (arith, less) in
-    let half : next / 2 ≡ bit_and m (m - 1) = omega (arith, less) in
-    ap (λ r. cond (r == 1) (p ∷ pieces_at m ps) (pieces_at m ps)) even
-    ∙ lowest_first t m ps later (λ i below. sym (bit_at-suc left i) ∙ zeros (suc i) (omega arith)) (omega arith)
-    ∙ ap (λ l. get_or ps t [] ∷ l) (sym (ap₂ (λ r h. cond (r == 1) (p ∷ pieces_at h ps) (pieces_at h ps)) none half))
+    let has = higher t left on zeros in
+    ap (λ r. cond (r == 1) (p ∷ pieces_at m ps) (pieces_at m ps)) has.even
+    ∙ lowest_first t m ps has.later (λ i below. sym (bit_at-suc left i) ∙ zeros (suc i) (omega arith)) (omega arith)
+    ∙ ap (λ l. get_or ps t [] ∷ l) (sym (ap₂ (λ r h. cond (r == 1) (p ∷ pieces_at h ps) (pieces_at h ps)) has.none has.half))
 
 one_out : (t left : ℕ) → bit_at left t ≡ 1 → ((i : ℕ) → i < t → bit_at left i ≡ 0) → ones left ≡ suc (ones (bit_and left (left - 1)))
 one_out zero left on zeros =
@@ -64,21 +73,15 @@ one_out zero left on zeros =
     let half : next / 2 ≡ left / 2 = omega (arith, odd_less left odd) in
     omega (arith, ones_step left, odd, ones_step next, even, ap ones half)
 one_out (suc t) left on zeros =
-    let m : ℕ = left / 2 in
-    let even : left % 2 ≡ 0 = sym (bit_at_lowest left) ∙ zeros 0 (omega arith) in
-    let later : bit_at m t ≡ 1 = sym (bit_at-suc left t) ∙ on in
-    let less = even_less left even (some_bit m t later) in
-    let next : ℕ = bit_and left (left - 1) in
-    let none : next % 2 ≡ 0 = omega (arith, less) in
-    let half : next / 2 ≡ bit_and m (m - 1) = omega (arith, less) in
+    let has = higher t left on zeros in
     omega (
       arith,
       ones_step left,
-      even,
-      ones_step next,
-      none,
-      ap ones half,
-      one_out t m later (λ i below. sym (bit_at-suc left i) ∙ zeros (suc i) (omega arith)),
+      has.even,
+      ones_step (bit_and left (left - 1)),
+      has.none,
+      ap ones has.half,
+      one_out t (left / 2) has.later (λ i below. sym (bit_at-suc left i) ∙ zeros (suc i) (omega arith)),
     )
 
 -- ---- a sum with pieces added, one after another

@@ -224,3 +224,5 @@ pub room_no : (words bytes rows cols cell : ℕ) → (words < rows * words_for c
 unfolding has_room
 room_no words bytes rows cols cell (inl a) = grind (arith, nat_tests)
 room_no words bytes rows cols cell (inr b) = grind (arith, nat_tests)
+
+pub ruleset arenas = (in_room, refilled, rows_counted, row_seen, put_kept, put_seen)

@@ -120,3 +120,24 @@ pub line_moved : (x y z a b s : List ℕ) → s ≡ zip2 bit_xor a b → x ≡ a
     → line_in s ≡ bit_xor (line_in a) (line_in b)
 line_moved x y z a b s is_s is_x is_y is_z line =
     ap line_in (is_s ∙ sym (is_z ∙ ap₂ (λ p q. zip2 bit_xor p q) is_x is_y)) ∙ line ∙ ap₂ (λ p q. bit_xor (line_in p) (line_in q)) is_x is_y
+
+pub low_others : (j into from size n : ℕ) (old low high z : List ℕ) → into < from → into * size + size ≤ length old → from * size + size ≤ length old → n ≡ size
+    → low ≡ take (from * size) old → high ≡ drop (from * size) old → z ≡ zip2 bit_xor (take n (drop (into * size) low)) (take size high) → j ≢ into
+    → stretch j size (put_mid (into * size) n low z ++ high) ≡ stretch j size old
+low_others j into from size n old low high z lt a b e f g h ne = (sums_low into from size n old low high z lt a b e f g h).others j ne
+
+pub high_others : (j into from size n : ℕ) (old low high z : List ℕ) → from < into → into * size + size ≤ length old → from * size + size ≤ length old → n ≡ size
+    → low ≡ take (into * size) old → high ≡ drop (into * size) old → z ≡ zip2 bit_xor (take size high) (take n (drop (from * size) low)) → j ≢ into
+    → stretch j size (low ++ (z ++ drop size high)) ≡ stretch j size old
+high_others j into from size n old low high z lt a b e f g h ne = (sums_high into from size n old low high z lt a b e f g h).others j ne
+
+pub ruleset summed = (sums_low, sums_high, low_others, high_others, before, stretch_low, stretch_high, line_moved)
+
+-- what is written over a stretch is there, and the others stay
+pub put_is : (k size n : ℕ) (xs ys from : List ℕ) → ys ≡ from → length from ≡ size → k * size + size ≤ length xs → stretch k size (put_mid (k * size) n xs ys) ≡ from
+put_is k size n xs ys from is long room = put_there k size n xs ys (ap length is ∙ long) room ∙ is
+
+pub put_beside : (j k size n : ℕ) (xs ys from : List ℕ) → ys ≡ from → length from ≡ size → n ≡ size → k * size + size ≤ length xs → j ≢ k → stretch j size (put_mid (k * size) n xs ys) ≡ stretch j size xs
+put_beside j k size n xs ys from is long e room ne = put_others j k size n xs ys (ap length is ∙ long) e room ne
+
+pub ruleset written = (put_is, put_beside, put_there, put_others, stretch_is, length-stretch)

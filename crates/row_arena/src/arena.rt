@@ -112,6 +112,7 @@ impl<const WORDS: usize, const BYTES: usize> RowArena<WORDS, BYTES> {
 
     /// Writes a line and bytes over row `r`. The line has as many words as a row, the lowest first, and no bit past the last
     /// column; there are as many bytes as a row has. All other rows stay.
+    #[tactic(auto, using(crate::proofs::Arenas::arenas))]
     pub fn set_row(&mut self, r: u16, line: &[u64], part: &[u8])
         requires inside { r < length self.old.rows }
         requires line { length line.now ≡ words_for self.old.cols }
@@ -125,6 +126,7 @@ impl<const WORDS: usize, const BYTES: usize> RowArena<WORDS, BYTES> {
     }
 
     /// Adds a line and bytes, as `set_row` takes them, to row `r`, bit by bit. All other rows stay.
+    #[tactic(auto, using(crate::proofs::Arenas::arenas))]
     pub fn add_to_row(&mut self, r: u16, line: &[u64], part: &[u8])
         requires inside { r < length self.old.rows }
         requires line { length line.now ≡ words_for self.old.cols }

@@ -8,6 +8,7 @@ ghost use Rattle.row_arena.specs.ArenaInside.{stretch};
 use crate::lanes::{xor_bytes, xor_words};
 
 /// Adds a stretch of so many words to another.
+#[tactic(auto, using(crate::proofs::Written::summed))]
 pub fn xor_words_at(words: &mut [u64], into: usize, from: usize, size: usize)
     requires into { into * size + size ≤ length words.old }
     requires from { from * size + size ≤ length words.old }
@@ -28,6 +29,7 @@ pub fn xor_words_at(words: &mut [u64], into: usize, from: usize, size: usize)
 }
 
 /// Adds a stretch of so many bytes to another.
+#[tactic(auto, using(crate::proofs::Written::summed))]
 pub fn xor_bytes_at(bytes: &mut [u8], into: usize, from: usize, size: usize)
     requires into { into * size + size ≤ length bytes.old }
     requires from { from * size + size ≤ length bytes.old }
@@ -46,6 +48,7 @@ pub fn xor_bytes_at(bytes: &mut [u8], into: usize, from: usize, size: usize)
 }
 
 /// Writes `from` over the `k`-th stretch of its length.
+#[tactic(auto, using(crate::proofs::Written::written))]
 pub fn put_words(words: &mut [u64], k: usize, from: &[u64])
     requires { k * length from.now + length from.now ≤ length words.old }
     ensures there { stretch k (length from.now) words.new ≡ from.now }
@@ -57,6 +60,7 @@ pub fn put_words(words: &mut [u64], k: usize, from: &[u64])
 }
 
 /// Writes `from` over the `k`-th stretch of its length.
+#[tactic(auto, using(crate::proofs::Written::written))]
 pub fn put_bytes(bytes: &mut [u8], k: usize, from: &[u8])
     requires { k * length from.now + length from.now ≤ length bytes.old }
     ensures there { stretch k (length from.now) bytes.new ≡ from.now }
@@ -68,6 +72,7 @@ pub fn put_bytes(bytes: &mut [u8], k: usize, from: &[u8])
 }
 
 /// The `k`-th stretch of so many words.
+#[tactic(auto, using(crate::proofs::Written::written))]
 pub fn words_at(words: &[u64], k: usize, size: usize) -> &[u64]
     requires { k * size + size ≤ length words.now }
     ensures value { result.now ≡ stretch k size words.now }
@@ -77,6 +82,7 @@ pub fn words_at(words: &[u64], k: usize, size: usize) -> &[u64]
 }
 
 /// The `k`-th stretch of so many bytes.
+#[tactic(auto, using(crate::proofs::Written::written))]
 pub fn bytes_at(bytes: &[u8], k: usize, size: usize) -> &[u8]
     requires { k * size + size ≤ length bytes.now }
     ensures value { result.now ≡ stretch k size bytes.now }
@@ -86,6 +92,7 @@ pub fn bytes_at(bytes: &[u8], k: usize, size: usize) -> &[u8]
 }
 
 /// Writes zeros over the `k`-th stretch of so many words.
+#[tactic(auto, using(crate::proofs::Written::written))]
 pub fn clear_words(words: &mut [u64], k: usize, size: usize)
     requires { k * size + size ≤ length words.old }
     ensures there { stretch k size words.new ≡ replicate size 0 }
@@ -96,6 +103,7 @@ pub fn clear_words(words: &mut [u64], k: usize, size: usize)
 }
 
 /// Writes zeros over the `k`-th stretch of so many bytes.
+#[tactic(auto, using(crate::proofs::Written::written))]
 pub fn clear_bytes(bytes: &mut [u8], k: usize, size: usize)
     requires { k * size + size ≤ length bytes.old }
     ensures there { stretch k size bytes.new ≡ replicate size 0 }
@@ -106,6 +114,7 @@ pub fn clear_bytes(bytes: &mut [u8], k: usize, size: usize)
 }
 
 /// Adds `from` to the `k`-th stretch of its length.
+#[tactic(auto, using(crate::proofs::Written::written))]
 pub fn add_words(words: &mut [u64], k: usize, from: &[u64])
     requires { k * length from.now + length from.now ≤ length words.old }
     ensures line { line_in (stretch k (length from.now) words.new)
@@ -118,6 +127,7 @@ pub fn add_words(words: &mut [u64], k: usize, from: &[u64])
 }
 
 /// Adds `from` to the `k`-th stretch of its length.
+#[tactic(auto, using(crate::proofs::Written::written))]
 pub fn add_bytes(bytes: &mut [u8], k: usize, from: &[u8])
     requires { k * length from.now + length from.now ≤ length bytes.old }
     ensures there { stretch k (length from.now) bytes.new

@@ -88,23 +88,20 @@ unfolding one
 one_false t e = ap (λ u. cond {A = ℕ} u 1 0) e
 
 -- a new row leads a place that was free
+lead_cleared : (p y : ℕ) (q : List ℕ) (ps : List Place) → get_or ps p free ≡ free → get_or (all_cleared p y q ps) p free ≡ free
+lead_cleared p y q ps none = at_all_cleared p y q ps p ∙ ap (cleared p y q) none ∙ free_is_cleared p y q
+
 pub rows_grown : (p y : ℕ) (q : List ℕ) (ps : List Place) → p < length ps → get_or ps p free ≡ free → rows_held (grown p y q ps) ≡ rows_held ps + 1
 unfolding grown is_row
 rows_grown p y q ps lt none =
-    let was : get_or (all_cleared p y q ps) p free ≡ free = at_all_cleared p y q ps p ∙ ap (cleared p y q) none ∙ free_is_cleared p y q in
-    let set_one = rows_set (all_cleared p y q ps) p (row y q) (omega (arith, length-all_cleared p y q ps)) in
-    let before : one (is_row (get_or (all_cleared p y q ps) p free)) ≡ 0 = one_false (is_row (get_or (all_cleared p y q ps) p free)) (ap is_row was) in
-    let after : one (is_row (row y q)) ≡ 1 = one_true (is_row (row y q)) refl in
-    omega (arith, set_one, before, after, rows_cleared p y q ps)
+    let before = one_false (is_row (get_or (all_cleared p y q ps) p free)) (ap is_row (lead_cleared p y q ps none)) in
+    omega (arith, rows_set (all_cleared p y q ps) p (row y q) (omega (arith, length-all_cleared p y q ps)), before, one_true (is_row (row y q)) refl, rows_cleared p y q ps)
 
 pub pieces_grown : (p y : ℕ) (q : List ℕ) (ps : List Place) → p < length ps → get_or ps p free ≡ free → pieces_held (grown p y q ps) ≡ pieces_held ps
 unfolding grown is_piece
 pieces_grown p y q ps lt none =
-    let was : get_or (all_cleared p y q ps) p free ≡ free = at_all_cleared p y q ps p ∙ ap (cleared p y q) none ∙ free_is_cleared p y q in
-    let set_one = pieces_set (all_cleared p y q ps) p (row y q) (omega (arith, length-all_cleared p y q ps)) in
-    let before : one (is_piece (get_or (all_cleared p y q ps) p free)) ≡ 0 = one_false (is_piece (get_or (all_cleared p y q ps) p free)) (ap is_piece was) in
-    let after : one (is_piece (row y q)) ≡ 0 = one_false (is_piece (row y q)) refl in
-    omega (arith, set_one, before, after, pieces_cleared p y q ps)
+    let before = one_false (is_piece (get_or (all_cleared p y q ps) p free)) (ap is_piece (lead_cleared p y q ps none)) in
+    omega (arith, pieces_set (all_cleared p y q ps) p (row y q) (omega (arith, length-all_cleared p y q ps)), before, one_false (is_piece (row y q)) refl, pieces_cleared p y q ps)
 
 -- ---- all places held, or some free
 

@@ -13,7 +13,7 @@ use Rattle.row_elimination.specs.Inside.{IsReduced, Marks}
 use Rattle.row_elimination.specs.Room.{Extent}
 use Rattle.row_elimination.specs.HeldStorage.{chunk, place_in, places_in, part_in, IsStored, IsRowOf, SameShape, Slots}
 use Rattle.row_elimination.specs.HeldSteps.{IsNew, Knows, Tells}
-use Rattle.row_elimination.specs.HeldTable.{Grid, IsGrid, max_line_words}
+use Rattle.row_elimination.specs.HeldTable.{Grid, IsGrid, IsTable, max_line_words}
 use Rattle.frag_model.specs.Limits.{max_pieces}
 use Rattle.row_elimination.proofs.Chunks.{chunk_within, chunk_longer}
 use Rattle.row_elimination.proofs.Reducing.{piece_at}
@@ -26,7 +26,7 @@ use Rattle.row_elimination.proofs.Telling.{told-sum}
 use Rattle.row_elimination.proofs.Saying.{lead_was_free}
 use Rattle.row_elimination.proofs.Slotting.{slots_pushed, slots_piece, slots_freed, slots_none}
 use Rattle.row_elimination.proofs.Settling.{unit_off, not_free, tells_piece, settled_rows, settled_reduced, settled_gained, learned_row}
-use Rattle.row_elimination.proofs.Counting.{one, one_true, one_false, count-cons, no_rows_cleared, rows_set, pieces_set, rows_grown, gained_more}
+use Rattle.row_elimination.proofs.Counting.{one, one_true, one_false, count-cons, gained-le, no_rows_cleared, rows_set, pieces_set, rows_grown, gained_more}
 
 -- the same storage with other places
 pub grid_next : (nb size rows count count' gained gained' : ℕ) (columns columns' : List Column) (spare spare' known known' area area' : List ℕ) (arena arena' : Arena) (ps : List Place)
@@ -245,6 +245,37 @@ part_of (Some e) = e.part
 -- the column that code reads
 pub column_read : (columns : List Column) (nb k : ℕ) (x : Column) → k < nb → nb ≤ length columns → x ≡ get_or columns k x → get_or (take nb columns) k Free ≡ x
 column_read columns nb k x lt le is = get_or-take nb columns k Free lt ∙ sym (read_there columns k x (omega arith) is)
+
+-- a table over other fields, whose area is as long
+pub table_of : {words bytes nb size rows count gained count' gained' most room columns_cap spare_cap known_cap area_cap : ℕ}
+    {columns columns' : List Column} {spare spare' known known' area area' : List ℕ} {arena arena' : Arena}
+    → IsTable words bytes nb size rows count gained most room columns_cap spare_cap known_cap area_cap columns spare known area arena
+    → length area' ≡ length area → IsGrid nb size rows count' gained' columns' spare' known' area' arena'
+    → IsTable words bytes nb size rows count' gained' most room columns_cap spare_cap known_cap area_cap columns' spare' known' area' arena'
+table_of table long grid = record {
+  words_few = table.words_few;
+  bytes_few = table.bytes_few;
+  memory = table.memory;
+  within = table.within;
+  area_fits = omega (arith, long, table.area_fits);
+  pieces_fit = table.pieces_fit;
+  grid = grid;
+}
+
+-- a column that leads a row is one of those that are counted
+pub leads_row : (nb size rows count gained k slot : ℕ) (columns : List Column) (spare known area : List ℕ) (arena : Arena) (part : List ℕ) (x : Column)
+    → IsGrid nb size rows count gained columns spare known area arena
+    → Knows (record { nb_frag = nb; frag_size = size; rows = rows }) (places_in size area arena (take nb columns)) k part
+    → x ≡ get_or columns k x → Row slot ≡ x → 1 ≤ count
+leads_row nb size rows count gained k slot columns spare known area arena part x h known_is read leads =
+    let shape : Shape = record { nb_frag = nb; frag_size = size; rows = rows } in
+    let at = column_read columns nb k x known_is.inside h.columns_sized read in
+    omega (arith, h.counted, settled_count shape area arena (take nb columns) k slot part known_is (at ∙ sym leads))
+
+-- no more was gained than the file has pieces
+pub gained_few : (nb size rows count gained : ℕ) (columns : List Column) (spare known area : List ℕ) (arena : Arena) → IsGrid nb size rows count gained columns spare known area arena → gained ≤ nb
+gained_few nb size rows count gained columns spare known area arena h =
+    omega (arith, h.gained_all, h.reduced.sized, gained-le (places_in size area arena (take nb columns)))
 
 -- what is held of a column, by what is kept of it
 pub place_read : (nb size rows count gained : ℕ) (room : Extent) (k : ℕ) (columns : List Column) (spare known area : List ℕ) (arena : Arena) (g : Grid) (x kept : Column)

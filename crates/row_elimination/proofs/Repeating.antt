@@ -53,33 +53,28 @@ reduced_again cols size k ps part held t lt is sized =
 
 -- ---- a table that receives such a piece
 
-pub ready_free : (g : Grid) (n k : ℕ) (part : List ℕ) → IsReduced g.shape.nb_frag g.shape.frag_size g.places → rows_held g.places ≤ g.shape.rows → gained_held g.places < g.shape.nb_frag
-    → 1 ≤ g.shape.frag_size → n ≡ suc k → n ≤ g.shape.nb_frag → IsPiece g.shape.frag_size part → get_or g.places k free ≡ free → IsReady g n part (2 ^ k) part
-ready_free g n k part held room more some is le sized none = record {
+-- what is left of the line is left of a piece's number
+ready : (g : Grid) (n k line : ℕ) (part rest : List ℕ) → IsReduced g.shape.nb_frag g.shape.frag_size g.places → rows_held g.places ≤ g.shape.rows → gained_held g.places < g.shape.nb_frag
+    → 1 ≤ g.shape.frag_size → n ≡ suc k → n ≤ g.shape.nb_frag → IsPiece g.shape.frag_size part → Reduced g.shape.nb_frag g.shape.frag_size g.places (2 ^ k) part line rest → IsReady g n part line rest
+ready g n k line part rest held room more some is le sized left = record {
   held = held;
   room = room;
   more = more;
   some = some;
   first = omega arith;
   piece = sized;
-  left =
-      let P : ℕ → Type 0 = λ line. Reduced g.shape.nb_frag g.shape.frag_size g.places line part (2 ^ k) part in
-      subst P (sym (number_piece g.shape.nb_frag n k is le)) (reduced_free g.shape.nb_frag g.shape.frag_size k g.places part (omega arith) none sized);
+  left = subst (λ (l : ℕ). Reduced g.shape.nb_frag g.shape.frag_size g.places l part line rest) (sym (number_piece g.shape.nb_frag n k is le)) left;
 }
+
+pub ready_free : (g : Grid) (n k : ℕ) (part : List ℕ) → IsReduced g.shape.nb_frag g.shape.frag_size g.places → rows_held g.places ≤ g.shape.rows → gained_held g.places < g.shape.nb_frag
+    → 1 ≤ g.shape.frag_size → n ≡ suc k → n ≤ g.shape.nb_frag → IsPiece g.shape.frag_size part → get_or g.places k free ≡ free → IsReady g n part (2 ^ k) part
+ready_free g n k part held room more some is le sized none =
+    ready g n k (2 ^ k) part part held room more some is le sized (reduced_free g.shape.nb_frag g.shape.frag_size k g.places part (omega arith) none sized)
 
 pub ready_again : (g : Grid) (n k : ℕ) (part held : List ℕ) → IsReduced g.shape.nb_frag g.shape.frag_size g.places → rows_held g.places ≤ g.shape.rows → gained_held g.places < g.shape.nb_frag
     → 1 ≤ g.shape.frag_size → n ≡ suc k → n ≤ g.shape.nb_frag → IsPiece g.shape.frag_size part → get_or g.places k free ≡ piece held → IsReady g n part 0 (xor_bytes part held)
-ready_again g n k part held t room more some is le sized before = record {
-  held = t;
-  room = room;
-  more = more;
-  some = some;
-  first = omega arith;
-  piece = sized;
-  left =
-      let P : ℕ → Type 0 = λ line. Reduced g.shape.nb_frag g.shape.frag_size g.places line part 0 (xor_bytes part held) in
-      subst P (sym (number_piece g.shape.nb_frag n k is le)) (reduced_again g.shape.nb_frag g.shape.frag_size k g.places part held t (omega arith) before sized);
-}
+ready_again g n k part held t room more some is le sized before =
+    ready g n k 0 part (xor_bytes part held) t room more some is le sized (reduced_again g.shape.nb_frag g.shape.frag_size k g.places part held t (omega arith) before sized)
 
 -- ---- what comes of a piece that came before
 

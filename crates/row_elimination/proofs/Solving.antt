@@ -9,14 +9,16 @@ use Rattle.row_elimination.specs.declared.stages.Fed.TheVariants as fed
 use Rattle.row_elimination.specs.HeldPlaces.{free, gained_held}
 use Rattle.row_elimination.specs.Inside.{IsReduced}
 use Rattle.row_elimination.specs.HeldTable.{Grid, SameRoom}
-use Rattle.row_elimination.specs.HeldSolver.{Held, TwoFit, Receives, Completes, Contradicts, Overflows, Feeds}
+use Rattle.row_elimination.specs.HeldSolver.{Held, TwoFit, Receives, Feeds}
 use Rattle.row_elimination.specs.HeldTaking.{held_of, stage_after, FedAs}
 use Rattle.row_arena.specs.Rows.{words_for, has_room as has_arena_room}
 use Rattle.row_elimination.specs.Room.{Extent, has_room}
 use Rattle.row_elimination.specs.SolverInside.{IsSolver}
+use Rattle.row_elimination.specs.declared.solver.Kept.{Kept}
+use Rattle.std.specs.Prelude.{vec_capacity}
 use Rattle.row_elimination.proofs.Telling.{fits_from_agrees}
 use Rattle.row_elimination.proofs.Blocks.{two_fitting, one_alone}
-use Rattle.row_elimination.proofs.Gridding.{none_reduced, free_everywhere, gained_none}
+use Rattle.row_elimination.proofs.Gridding.{more_words, none_reduced, free_everywhere, gained_none}
 
 -- ---- room
 
@@ -31,6 +33,24 @@ roomy words bytes extent nb size rows h =
     let a = and_parts (nat_le (rows * words_for nb) words && nat_le (rows * size) bytes && nat_le (nb * size) extent.area) (nat_le nb extent.pieces) h in
     let b = and_parts (nat_le (rows * words_for nb) words && nat_le (rows * size) bytes) (nat_le (nb * size) extent.area) a.0 in
     record { arena = b.0; pieces = leb-true (nb * size) extent.area b.1; few = leb-true nb extent.pieces a.1 }
+
+-- ---- what lies in the box
+
+abbrev pub IsKept : {W B : ℕ} → Kept W B → Type 0
+IsKept k = IsSolver k.table k.stage (vec_capacity k.line) (vec_capacity k.picks) k.line.items k.picks.items k.part.items
+
+pub kept_still : {W B : ℕ} (k now : Kept W B) → k ≡ now → IsKept now → IsKept k
+kept_still {W} {B} k now same inside = subst (λ (x : Kept W B). IsKept x) (sym same) inside
+
+pub held_still : {W B : ℕ} (k now : Kept W B) (h : Held) → k ≡ now → held_of now.stage now.table ≡ h → held_of k.stage k.table ≡ h
+held_still {W} {B} k now h same is = ap (λ (x : Kept W B). held_of x.stage x.table) same ∙ is
+
+-- the words of the file's lines are no more than there is memory for
+pub line_fits : {W B : ℕ} (k now : Kept W B) (h : Held) (nb size rows : ℕ) → k ≡ now → held_of now.stage now.table ≡ h → has_room W B h.extent nb size rows ≡ true
+    → words_for nb ≤ words_for k.table.room.pieces
+line_fits {W} {B} k now h nb size rows same is room =
+    let pieces : k.table.room.pieces ≡ h.extent.pieces = ap (λ (x : Held). x.extent.pieces) (held_still k now h same is) in
+    more_words nb k.table.room.pieces (omega (arith, (roomy W B h.extent nb size rows room).few, pieces))
 
 -- ---- a solver that has just begun
 
@@ -52,29 +72,17 @@ receiving_only fed.Complete e = cc
 receiving_only fed.NoRows e = cc
 receiving_only fed.Conflict e = cc
 
-pub fed_receives : (answer : Fed) (old new : Held) (n : ℕ) (part : List ℕ) → FedAs answer old new n part → answer ≡ fed.Receiving → Receives old new n part
-unfolding FedAs
-fed_receives answer old new n part h e = subst (λ a. FedAs a old new n part) e h
-
-pub fed_completes : (answer : Fed) (old new : Held) (n : ℕ) (part : List ℕ) → FedAs answer old new n part → answer ≡ fed.Complete → Completes old new n part
-unfolding FedAs
-fed_completes answer old new n part h e = subst (λ a. FedAs a old new n part) e h
-
-pub fed_overflows : (answer : Fed) (old new : Held) (n : ℕ) (part : List ℕ) → FedAs answer old new n part → answer ≡ fed.NoRows → Overflows old new n part
-unfolding FedAs
-fed_overflows answer old new n part h e = subst (λ a. FedAs a old new n part) e h
-
-pub fed_contradicts : (answer : Fed) (old new : Held) (n : ℕ) (part : List ℕ) → FedAs answer old new n part → answer ≡ fed.Conflict → Contradicts old new n part
-unfolding FedAs
-fed_contradicts answer old new n part h e = subst (λ a. FedAs a old new n part) e h
+pub fed_as : (answer other : Fed) (old new : Held) (n : ℕ) (part : List ℕ) → FedAs answer old new n part → answer ≡ other → FedAs other old new n part
+fed_as answer other old new n part h e = subst (λ (a : Fed). FedAs a old new n part) e h
 
 -- what each answer means, one by one
 pub feeds : (answer : Fed) (old new : Held) (n : ℕ) (part : List ℕ) → new.extent ≡ old.extent → FedAs answer old new n part → Feeds old new n part answer
+unfolding FedAs
 feeds answer old new n part extent h = record {
-  receiving = fed_receives answer old new n part h;
-  complete = fed_completes answer old new n part h;
-  no_rows = fed_overflows answer old new n part h;
-  conflict = fed_contradicts answer old new n part h;
+  receiving = fed_as answer fed.Receiving old new n part h;
+  complete = fed_as answer fed.Complete old new n part h;
+  no_rows = fed_as answer fed.NoRows old new n part h;
+  conflict = fed_as answer fed.Conflict old new n part h;
   extent = extent;
 }
 
@@ -111,8 +119,9 @@ fed_is answer g new before after old n part is at e h =
 -- while it receives, something is left to be gained
 pub left_to_gain : (answer : Fed) (g new : Grid) (n : ℕ) (part : List ℕ) → FedAs answer (held_of stage.Receiving g) (held_of (stage_after answer) new) n part → IsReduced new.shape.nb_frag new.shape.frag_size new.places
     → answer ≡ fed.Receiving → gained_held new.places < new.shape.nb_frag
+unfolding FedAs
 left_to_gain answer g new n part h reduced e =
-    let r = fed_receives answer (held_of stage.Receiving g) (held_of (stage_after answer) new) n part h e in
+    let r : Receives (held_of stage.Receiving g) (held_of (stage_after answer) new) n part = fed_as answer fed.Receiving (held_of stage.Receiving g) (held_of (stage_after answer) new) n part h e in
     let two = r.two in
     elim (cases_lt (gained_held new.places) new.shape.nb_frag) [
       | inl lt ↦ lt

@@ -10,15 +10,16 @@ use Rattle.session_store.specs.declared.state.State.TheVariants.{Flash, Down}
 use Rattle.session_store.specs.declared.store.FlashFault.{FlashFault}
 use Rattle.session_store.specs.CompleteFlags.{flags_of}
 use Rattle.session_store.specs.HeldPlaces.{HeldPlaces, PlacesStand, PlacesServe}
-use Rattle.session_store.specs.HeldStore.{HeldStore, StateStands, StateIsStored, StateIsHeld, IsInFlash, IsUp, StoreServes}
+use Rattle.session_store.specs.HeldStore.{HeldStore, StateStands, StateIsStored, StateIsHeld, StateFits, IsInFlash, IsUp, StoreServes}
 use Rattle.session_store.specs.SessionTable.{SessionTable}
 
 module _ {F A : Type 0} (seen : F → FlashSeen) (made : Layout → (held : Bool) → SessionTable → SessionTable) (left : Layout → (old new : SessionTable) → List ℕ → Type 0) (old new : HeldStore F) (p q : HeldPlaces)
-    (there : old.state ≡ Flash p) (placed : p.layout ≡ old.layout) (laid : new.layout ≡ old.layout) (held : old.held ≡ true) (still : new.held ≡ true) where
+    (there : old.state ≡ Flash p) (fits : StateFits old.layout (seen old.flash).room old.state) (laid : new.layout ≡ old.layout) (held : old.held ≡ true) (still : new.held ≡ true) where
   -- in the words of the store
   as_store : {r : Result A Failed} → PlacesServe (made p.layout true) (left p.layout) p q (seen old.flash) (seen new.flash) r
       → PlacesServe (made old.layout old.held) (left old.layout) p q (seen old.flash) (seen new.flash) r
   as_store {r} serves =
+      let placed = (subst (StateFits old.layout (seen old.flash).room) there fits).0 in
       subst (λ (b : Bool). PlacesServe (made old.layout b) (left old.layout) p q (seen old.flash) (seen new.flash) r) (sym held)
       (subst (λ (l : Layout). PlacesServe (made l true) (left l) p q (seen old.flash) (seen new.flash) r) placed serves)
 

@@ -1,5 +1,26 @@
 //! What several tests take.
 
+use frag_session::{Limits, SetupReq};
+
+/// Session 0 of four pieces of one byte.
+pub const SETUP: SetupReq = SetupReq {
+    index: 0,
+    mask: 0,
+    nb_frag: 4,
+    frag_size: 1,
+    algo: 0,
+    delay: 0,
+    padding: 0,
+    descriptor: 0,
+};
+
+/// A device with all four sessions, and without rows for coded fragments.
+pub const LIMITS: Limits = Limits {
+    sessions: 4,
+    rows: 0,
+    descriptor: None,
+};
+
 /// An image file for hardware 1 with firmware 2, its body and digest those of the text abc.
 pub static IMAGE: [u8; 52] = [
     0x46, 0x55, 0x49, 0x4d, 0x01, 0x01, 0x00, 0x00, 0x00, 0x02, 0x00, 0x00, 0x00, 0x03, 0x00, 0x00,

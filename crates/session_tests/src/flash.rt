@@ -3,8 +3,9 @@
 ghost use Rattle.std.specs.Prelude.{◌≡◌, ◌+◌, ◌≤◌, IfOk};
 ghost use Rattle.std.specs.Bool.{OnTrue};
 
+use crate::common::{LIMITS, SETUP};
 use flash_session::{CellFlash, Flash, Held, MemFlash, OpenFault, StopFlash};
-use frag_session::{Cause, Heard, Idle, Limits, News, SetupReq, Verdict, Via};
+use frag_session::{Cause, Heard, Idle, News, SetupReq, Verdict, Via};
 use row_elimination::Solver;
 use std::alloc::Global;
 use std::process::Abort;
@@ -20,23 +21,6 @@ const SPAN: u32 = 24_640 + 9 * 11;
 
 /// Room for the steps of two setups, and of what is heard in them.
 const ROOM: u32 = 60_000;
-
-const SETUP: SetupReq = SetupReq {
-    index: 0,
-    mask: 0,
-    nb_frag: 4,
-    frag_size: 1,
-    algo: 0,
-    delay: 0,
-    padding: 0,
-    descriptor: 0,
-};
-
-const LIMITS: Limits = Limits {
-    sessions: 4,
-    rows: 0,
-    descriptor: None,
-};
 
 /// A call of a session: a setup of so many pieces, a fragment of one byte, or a delete.
 #[derive(Clone, Copy)]

@@ -2,6 +2,8 @@
 
 ghost use Rattle.std.specs.Prelude.{◌≡◌};
 
+use crate::common;
+use crate::common::LIMITS;
 use frag_session::*;
 use row_elimination::Solver;
 use std::alloc::Global;
@@ -12,20 +14,9 @@ use std::test::*;
 type SmallSlot = Slot<4, 4>;
 
 const SETUP: SetupReq = SetupReq {
-    index: 0,
     mask: 0b10,
-    nb_frag: 4,
-    frag_size: 1,
-    algo: 0,
     delay: 5,
-    padding: 0,
-    descriptor: 0,
-};
-
-const LIMITS: Limits = Limits {
-    sessions: 4,
-    rows: 0,
-    descriptor: None,
+    ..common::SETUP
 };
 
 /// What is shown after fragments that are heard, the first of them at mark 3.

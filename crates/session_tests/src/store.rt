@@ -2,6 +2,7 @@
 
 ghost use Rattle.std.specs.Prelude.{◌*◌, ◌≤◌};
 
+use crate::common::SETUP;
 use flash_session::{Flash, MemFlash, StopFlash};
 use frag_session::{Limits, SetupReq, Verdict, Via};
 use session_store::{Layout, SessionStore};
@@ -84,16 +85,7 @@ fn power(rt: &impl Abort, store: &mut Store) -> bool {
 
 fn sets_up(rt: &impl Abort, store: &mut Store, index: u8) -> bool {
     assert!(rt; index < 4 && !store.is_down());
-    let req = SetupReq {
-        index,
-        mask: 0,
-        nb_frag: 4,
-        frag_size: 1,
-        algo: 0,
-        delay: 0,
-        padding: 0,
-        descriptor: 0,
-    };
+    let req = SetupReq { index, ..SETUP };
     match store.setup(req) {
         Ok(bits) => {
             assert!(rt; bits == 0);

@@ -1,12 +1,13 @@
 -- The laws of spellings, over the definitions alone.
-use Rattle.std.proofs.Common.{◌≡◌, ℕ, ◌+◌, ◌<◌, true, false, List, [], ◌++◌, length, Some, None, refl, sym, ap, ◌∙◌, arith, length-append}
-use Rattle.std.proofs.lemmas.List.{nil_from_length}
+use Rattle.std.proofs.Common.{◌≡◌, ℕ, ◌+◌, ◌<◌, true, false, List, [], ◌++◌, length, Some, None, refl, arith}
 use Rattle.wire_base.specs.declared.refusal.Direction.{Direction}
 use Rattle.wire_base.specs.Rows.{IsListed, takes_rest, is_well_formed}
-use Rattle.wire_base.proofs.RowLaws.{row_written, row_before_more}
+use Rattle.wire_base.proofs.RowLaws.{row_written}
+use Rattle.wire_base.proofs.Spelled as spelled
 use Rattle.sync_wire.specs.declared.cmd.Cmd.{Cmd}
 use Rattle.sync_wire.specs.declared.cmd.Cmd.TheVariants.{PackageVersionReq, PackageVersionAns, AppTimeReq, AppTimeAns, DeviceAppTimePeriodicityReq, DeviceAppTimePeriodicityAns, ForceDeviceResyncReq, DevVersionReq, DevVersionAns, DevRebootTimeReq, DevRebootTimeAns, DevRebootCountdownReq, DevRebootCountdownAns, DevUpgradeImageReq, DevUpgradeImageAns, DevDeleteImageReq, DevDeleteImageAns}
-use Rattle.sync_wire.specs.Table.{row, Spells, IsValid, canonical}
+use Rattle.sync_wire.specs.Table.{row, IsWhole, Spells, IsValid, canonical}
+use Rattle.sync_wire.specs.Reading.{reading}
 use Rattle.sync_wire.proofs.Only.{only}
 
 -- the fields of each row are apart, its identifier is a byte, and no part takes the rest
@@ -42,18 +43,9 @@ written c port dir before after valid listed =
     let open_ended : takes_rest (row c).parts ≡ true → after ≡ [] = λ takes. let never = row_is.closed in absurd cc in
     record { listed = listed; lies = row_written (row c) before after row_is.formed valid.fields row_is.cid_small open_ended; whole = valid.whole }
 
-some_same : (x y : Cmd × ℕ) → Some x ≡ Some y → x ≡ y
-some_same x y same = cc
-
 pub one : (c d : Cmd) (port : ℕ) (dir : Direction) (bytes : List ℕ) (at next end : ℕ) → Spells c port dir bytes at next → Spells d port dir bytes at end → (c ≡ d) × (next ≡ end)
-one c d port dir bytes at next end first second =
-    let same = some_same (c, next) (d, end) (sym (only c port dir bytes at next first) ∙ only d port dir bytes at end second) in
-    (ap (λ (x : Cmd × ℕ). x.0) same, ap (λ (x : Cmd × ℕ). x.1) same)
+one = spelled.one row IsWhole reading only
 
 pub none_begins : (c d : Cmd) (port : ℕ) (dir : Direction) (bytes more : List ℕ)
     → Spells c port dir bytes 0 (length bytes) → Spells d port dir (bytes ++ more) 0 (length (bytes ++ more)) → more ≡ []
-none_begins c d port dir bytes more first second =
-    let lies = row_before_more (row c) bytes more 0 (length bytes) (row_formed c).closed first.lies in
-    let still : Spells c port dir (bytes ++ more) 0 (length bytes) = record { listed = first.listed; lies = lies; whole = first.whole } in
-    let same = one c d port dir (bytes ++ more) 0 (length bytes) (length (bytes ++ more)) still second in
-    nil_from_length more (omega (arith, same.1, length-append bytes more))
+none_begins c d port dir bytes more = spelled.none_begins row IsWhole reading only c d port dir bytes more (row_formed c).closed

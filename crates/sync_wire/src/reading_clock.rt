@@ -25,33 +25,25 @@ pub fn read_clock_down(bytes: &[u8], at: u16) -> Result<(Cmd, u16), Refusal>
     let end = bytes.len() as u16;
     match u8_at(bytes, at) {
         PACKAGE_VERSION => Ok((Cmd::PackageVersionReq, at + NO_BODY_LEN)),
-        APP_TIME => {
-            if end < at + APP_TIME_LEN {
-                return Err(Refusal::short(bytes));
-            }
+        APP_TIME if at + APP_TIME_LEN <= end => {
             let answer = Cmd::AppTimeAns {
                 correction: u32_at(bytes, at + 1).cast_signed(),
                 token: u8_at(bytes, at + 5) & 15,
             };
             Ok((answer, at + APP_TIME_LEN))
         }
-        PERIODICITY => {
-            if end < at + ONE_BYTE_LEN {
-                return Err(Refusal::short(bytes));
-            }
+        PERIODICITY if at + ONE_BYTE_LEN <= end => {
             let period = u8_at(bytes, at + 1) & 15;
             Ok((
                 Cmd::DeviceAppTimePeriodicityReq { period },
                 at + ONE_BYTE_LEN,
             ))
         }
-        FORCE_RESYNC => {
-            if end < at + ONE_BYTE_LEN {
-                return Err(Refusal::short(bytes));
-            }
+        FORCE_RESYNC if at + ONE_BYTE_LEN <= end => {
             let count = u8_at(bytes, at + 1) & 7;
             Ok((Cmd::ForceDeviceResyncReq { count }, at + ONE_BYTE_LEN))
         }
+        APP_TIME | PERIODICITY | FORCE_RESYNC => Err(Refusal::short(bytes)),
         _ => Err(Refusal::unknown(at)),
     }
 }
@@ -67,20 +59,14 @@ pub fn read_clock_up(bytes: &[u8], at: u16) -> Result<(Cmd, u16), Refusal>
 {
     let end = bytes.len() as u16;
     match u8_at(bytes, at) {
-        PACKAGE_VERSION => {
-            if end < at + VERSION_ANSWER_LEN {
-                return Err(Refusal::short(bytes));
-            }
+        PACKAGE_VERSION if at + VERSION_ANSWER_LEN <= end => {
             let version = Cmd::PackageVersionAns {
                 identifier: u8_at(bytes, at + 1),
                 version: u8_at(bytes, at + 2),
             };
             Ok((version, at + VERSION_ANSWER_LEN))
         }
-        APP_TIME => {
-            if end < at + APP_TIME_LEN {
-                return Err(Refusal::short(bytes));
-            }
+        APP_TIME if at + APP_TIME_LEN <= end => {
             let param = u8_at(bytes, at + 5);
             let request = Cmd::AppTimeReq {
                 time: u32_at(bytes, at + 1),
@@ -89,16 +75,14 @@ pub fn read_clock_up(bytes: &[u8], at: u16) -> Result<(Cmd, u16), Refusal>
             };
             Ok((request, at + APP_TIME_LEN))
         }
-        PERIODICITY => {
-            if end < at + PERIODICITY_ANSWER_LEN {
-                return Err(Refusal::short(bytes));
-            }
+        PERIODICITY if at + PERIODICITY_ANSWER_LEN <= end => {
             let answer = Cmd::DeviceAppTimePeriodicityAns {
                 unsupported: u8_at(bytes, at + 1) & 1 == 1,
                 time: u32_at(bytes, at + 2),
             };
             Ok((answer, at + PERIODICITY_ANSWER_LEN))
         }
+        PACKAGE_VERSION | APP_TIME | PERIODICITY => Err(Refusal::short(bytes)),
         _ => Err(Refusal::unknown(at)),
     }
 }

@@ -27,28 +27,20 @@ pub fn read_firmware_down(bytes: &[u8], at: u16) -> Result<(Cmd, u16), Refusal>
     match u8_at(bytes, at) {
         PACKAGE_VERSION => Ok((Cmd::PackageVersionReq, at + NO_BODY_LEN)),
         DEV_VERSION => Ok((Cmd::DevVersionReq, at + NO_BODY_LEN)),
-        REBOOT_TIME => {
-            if end < at + FOUR_BYTES_LEN {
-                return Err(Refusal::short(bytes));
-            }
+        REBOOT_TIME if at + FOUR_BYTES_LEN <= end => {
             let time = u32_at(bytes, at + 1);
             Ok((Cmd::DevRebootTimeReq { time }, at + FOUR_BYTES_LEN))
         }
-        REBOOT_COUNTDOWN => {
-            if end < at + THREE_BYTES_LEN {
-                return Err(Refusal::short(bytes));
-            }
+        REBOOT_COUNTDOWN if at + THREE_BYTES_LEN <= end => {
             let count = u24_at(bytes, at + 1);
             Ok((Cmd::DevRebootCountdownReq { count }, at + THREE_BYTES_LEN))
         }
         UPGRADE_IMAGE => Ok((Cmd::DevUpgradeImageReq, at + NO_BODY_LEN)),
-        DELETE_IMAGE => {
-            if end < at + FOUR_BYTES_LEN {
-                return Err(Refusal::short(bytes));
-            }
+        DELETE_IMAGE if at + FOUR_BYTES_LEN <= end => {
             let version = u32_at(bytes, at + 1);
             Ok((Cmd::DevDeleteImageReq { version }, at + FOUR_BYTES_LEN))
         }
+        REBOOT_TIME | REBOOT_COUNTDOWN | DELETE_IMAGE => Err(Refusal::short(bytes)),
         _ => Err(Refusal::unknown(at)),
     }
 }
@@ -64,44 +56,29 @@ pub fn read_firmware_up(bytes: &[u8], at: u16) -> Result<(Cmd, u16), Refusal>
 {
     let end = bytes.len() as u16;
     match u8_at(bytes, at) {
-        PACKAGE_VERSION => {
-            if end < at + VERSION_ANSWER_LEN {
-                return Err(Refusal::short(bytes));
-            }
+        PACKAGE_VERSION if at + VERSION_ANSWER_LEN <= end => {
             let version = Cmd::PackageVersionAns {
                 identifier: u8_at(bytes, at + 1),
                 version: u8_at(bytes, at + 2),
             };
             Ok((version, at + VERSION_ANSWER_LEN))
         }
-        DEV_VERSION => {
-            if end < at + DEV_VERSION_ANSWER_LEN {
-                return Err(Refusal::short(bytes));
-            }
+        DEV_VERSION if at + DEV_VERSION_ANSWER_LEN <= end => {
             let versions = Cmd::DevVersionAns {
                 firmware: u32_at(bytes, at + 1),
                 hardware: u32_at(bytes, at + 5),
             };
             Ok((versions, at + DEV_VERSION_ANSWER_LEN))
         }
-        REBOOT_TIME => {
-            if end < at + FOUR_BYTES_LEN {
-                return Err(Refusal::short(bytes));
-            }
+        REBOOT_TIME if at + FOUR_BYTES_LEN <= end => {
             let time = u32_at(bytes, at + 1);
             Ok((Cmd::DevRebootTimeAns { time }, at + FOUR_BYTES_LEN))
         }
-        REBOOT_COUNTDOWN => {
-            if end < at + THREE_BYTES_LEN {
-                return Err(Refusal::short(bytes));
-            }
+        REBOOT_COUNTDOWN if at + THREE_BYTES_LEN <= end => {
             let count = u24_at(bytes, at + 1);
             Ok((Cmd::DevRebootCountdownAns { count }, at + THREE_BYTES_LEN))
         }
-        UPGRADE_IMAGE => {
-            if end < at + ONE_BYTE_LEN {
-                return Err(Refusal::short(bytes));
-            }
+        UPGRADE_IMAGE if at + ONE_BYTE_LEN <= end => {
             let status = u8_at(bytes, at + 1) & 3;
             if status != STATUS_VALID {
                 let answer = Cmd::DevUpgradeImageAns { status, next: None };
@@ -114,13 +91,16 @@ pub fn read_firmware_up(bytes: &[u8], at: u16) -> Result<(Cmd, u16), Refusal>
             let answer = Cmd::DevUpgradeImageAns { status, next };
             Ok((answer, at + NEXT_ANSWER_LEN))
         }
-        DELETE_IMAGE => {
-            if end < at + ONE_BYTE_LEN {
-                return Err(Refusal::short(bytes));
-            }
+        DELETE_IMAGE if at + ONE_BYTE_LEN <= end => {
             let errors = u8_at(bytes, at + 1) & 3;
             Ok((Cmd::DevDeleteImageAns { errors }, at + ONE_BYTE_LEN))
         }
+        PACKAGE_VERSION
+        | DEV_VERSION
+        | REBOOT_TIME
+        | REBOOT_COUNTDOWN
+        | UPGRADE_IMAGE
+        | DELETE_IMAGE => Err(Refusal::short(bytes)),
         _ => Err(Refusal::unknown(at)),
     }
 }

@@ -32,33 +32,22 @@ decide-requires g c =
     )
 
 pub returns-clause-fed : goal.returns-clause-fed
-returns-clause-fed g c = record {
-  fed =
-      let t = c.args.table.now in
-      let now = c.learn.new.self in
-      let l : ℕ = line_in c.args.line.now in
-      let q = c.args.rest.now in
-      let part = c.args.part.now in
-      let k : ℕ = c.args.n - 1 in
-      let is : c.args.n ≡ suc k = omega (arith, c.requires.new.ready.first) in
-      let inside : c.args.p < t.shape.nb_frag = omega arith in
-      let own = c.requires.new.has in
-      let known = knows_grown t c.args.n k c.args.p l part q c.requires.new.ready is c.requires.uncoded inside own in
-      let held = reduced_in t now (set (grown c.args.p l q t.places) k (piece part)) c.learn.ensures.room c.learn.ensures.places (settled_reduced t.shape (grown c.args.p l q t.places) k part known) in
-      decided c.decide.result t now c.decide.new.table c.args.n part c.requires.new.ready.piece.sized c.requires.new.ready.held c.requires.new.ready.some
-      (takes_new_piece t now c.args.n k c.args.p l part q c.requires.new.ready is c.requires.uncoded inside own c.learn.ensures.room c.learn.ensures.places)
-      held c.learn.ensures.room c.decide.ensures;
-  room = decided_room c.decide.result c.args.table.now c.learn.new.self c.decide.new.table c.learn.ensures.room c.decide.ensures;
-  held =
-      let t = c.args.table.now in
-      let l : ℕ = line_in c.args.line.now in
-      let q = c.args.rest.now in
-      let part = c.args.part.now in
-      let k : ℕ = c.args.n - 1 in
-      let is : c.args.n ≡ suc k = omega (arith, c.requires.new.ready.first) in
-      let inside : c.args.p < t.shape.nb_frag = omega arith in
-      let known = knows_grown t c.args.n k c.args.p l part q c.requires.new.ready is c.requires.uncoded inside c.requires.new.has in
-      decided_held c.decide.result c.learn.new.self c.decide.new.table
-      (reduced_in t c.learn.new.self (set (grown c.args.p l q t.places) k (piece part)) c.learn.ensures.room c.learn.ensures.places (settled_reduced t.shape (grown c.args.p l q t.places) k part known))
-      c.decide.ensures;
-}
+returns-clause-fed g c =
+    let t = c.args.table.now in
+    let now = c.learn.new.self in
+    let l : ℕ = line_in c.args.line.now in
+    let q = c.args.rest.now in
+    let part = c.args.part.now in
+    let inside : c.args.p < t.shape.nb_frag = omega arith in
+    let own = c.requires.new.has in
+    let k : ℕ = c.args.n - 1 in
+    let is : c.args.n ≡ suc k = omega (arith, c.requires.new.ready.first) in
+    let known = knows_grown t c.args.n k c.args.p l part q c.requires.new.ready is c.requires.uncoded inside own in
+    let held = reduced_in t now (set (grown c.args.p l q t.places) k (piece part)) c.learn.ensures.room c.learn.ensures.places (settled_reduced t.shape (grown c.args.p l q t.places) k part known) in
+    record {
+      fed = decided c.decide.result t now c.decide.new.table c.args.n part c.requires.new.ready.piece.sized c.requires.new.ready.held c.requires.new.ready.some
+          (takes_new_piece t now c.args.n k c.args.p l part q c.requires.new.ready is c.requires.uncoded inside own c.learn.ensures.room c.learn.ensures.places)
+          held c.learn.ensures.room c.decide.ensures;
+      room = decided_room c.decide.result t now c.decide.new.table c.learn.ensures.room c.decide.ensures;
+      held = decided_held c.decide.result now c.decide.new.table held c.decide.ensures;
+    }

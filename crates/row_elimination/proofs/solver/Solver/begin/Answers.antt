@@ -1,23 +1,18 @@
-use Rattle.std.proofs.Common.{◌≡◌, ◌<◌, ◌≤◌, replicate, refl, sym, ap, subst, ◌∙◌, arith}
-use Rattle.std.specs.Prelude.{vec_capacity}
+use Rattle.std.proofs.Common.{◌≡◌, ◌<◌, ◌≤◌, replicate, refl, sym, ap, ◌∙◌, arith}
 use Rattle.row_arena.specs.Rows.{words_for}
 use Rattle.row_elimination.specs.Room.{Extent}
 use Rattle.row_elimination.specs.HeldPlaces.{gained_held, free}
 use Rattle.frag_model.specs.Fragments.{Shape}
 use Rattle.row_elimination.specs.HeldSolver.{Held}
-use Rattle.row_elimination.specs.SolverInside.{IsSolver}
-use Rattle.row_elimination.specs.HeldTaking.{held_of}
 use Rattle.row_elimination.specs.declared.solver.Kept.{Kept}
 use Rattle.row_elimination.specs.declared.stages.Stage.TheVariants as stage
-use Rattle.row_elimination.proofs.Gridding.{more_words}
-use Rattle.row_elimination.proofs.Solving.{roomy, two_at_first, more_at_first}
+use Rattle.row_elimination.proofs.Solving.{kept_still, held_still, line_fits, roomy, two_at_first, more_at_first}
 use Rattle.row_elimination.proofs.solver.Solver.begin.Goals as goal
 
 pub begin-requires : goal.begin-requires
 begin-requires g c =
     let k : Kept g.row.W g.row.B = c.deref_mut-kept.result.now in
-    let same : k ≡ c.self.inside.kept.value = c.deref_mut-kept.ensures.value in
-    let view : held_of k.stage k.table ≡ c.args.self.now = ap (λ (x : Kept g.row.W g.row.B). held_of x.stage x.table) same ∙ c.self.view_is in
+    let view = held_still k c.self.inside.kept.value c.args.self.now c.deref_mut-kept.ensures.value c.self.view_is in
     let r = roomy g.row.W g.row.B c.args.self.now.extent c.args.nb_frag c.args.frag_size c.args.rows (sym c.fits.ensures ∙ c.if-not-fits.false) in
     let extent : k.table.room ≡ c.args.self.now.extent = ap (λ (h : Held). h.extent) view in
     let area : k.table.room.area ≡ c.args.self.now.extent.area = ap (λ (e : Extent). e.area) extent in
@@ -32,35 +27,22 @@ begin-requires g c =
       ),
     )
 
--- the words of the file's lines are no more than there is memory for
 pub widen-requires : goal.widen-requires
 widen-requires g c =
     let k : Kept g.row.W g.row.B = c.deref_mut-kept.result.now in
-    let same : k ≡ c.self.inside.kept.value = c.deref_mut-kept.ensures.value in
-    let inv : IsSolver k.table k.stage (vec_capacity k.line) (vec_capacity k.picks) k.line.items k.picks.items k.part.items =
-    subst (λ (x : Kept g.row.W g.row.B). IsSolver x.table x.stage (vec_capacity x.line) (vec_capacity x.picks) x.line.items x.picks.items x.part.items) (sym same) c.self.invariant in
-    let view : held_of k.stage k.table ≡ c.args.self.now = ap (λ (x : Kept g.row.W g.row.B). held_of x.stage x.table) same ∙ c.self.view_is in
-    let r = roomy g.row.W g.row.B c.args.self.now.extent c.args.nb_frag c.args.frag_size c.args.rows (sym c.fits.ensures ∙ c.if-not-fits.false) in
-    let pieces : k.table.room.pieces ≡ c.args.self.now.extent.pieces = ap (λ (h : Held). h.extent.pieces) view in
-    omega (arith, c.words_for.ensures.value, more_words c.args.nb_frag k.table.room.pieces (omega (arith, r.few, pieces)), inv.line_held)
+    let words = line_fits k c.self.inside.kept.value c.args.self.now c.args.nb_frag c.args.frag_size c.args.rows c.deref_mut-kept.ensures.value c.self.view_is (sym c.fits.ensures ∙ c.if-not-fits.false) in
+    omega (arith, c.words_for.ensures.value, words, (kept_still k c.self.inside.kept.value c.deref_mut-kept.ensures.value c.self.invariant).line_held)
 
 pub widen-requires-2 : goal.widen-requires-2
 widen-requires-2 g c =
     let k : Kept g.row.W g.row.B = c.deref_mut-kept.result.now in
-    let same : k ≡ c.self.inside.kept.value = c.deref_mut-kept.ensures.value in
-    let inv : IsSolver k.table k.stage (vec_capacity k.line) (vec_capacity k.picks) k.line.items k.picks.items k.part.items =
-    subst (λ (x : Kept g.row.W g.row.B). IsSolver x.table x.stage (vec_capacity x.line) (vec_capacity x.picks) x.line.items x.picks.items x.part.items) (sym same) c.self.invariant in
-    let view : held_of k.stage k.table ≡ c.args.self.now = ap (λ (x : Kept g.row.W g.row.B). held_of x.stage x.table) same ∙ c.self.view_is in
-    let r = roomy g.row.W g.row.B c.args.self.now.extent c.args.nb_frag c.args.frag_size c.args.rows (sym c.fits.ensures ∙ c.if-not-fits.false) in
-    let pieces : k.table.room.pieces ≡ c.args.self.now.extent.pieces = ap (λ (h : Held). h.extent.pieces) view in
-    omega (arith, c.words_for-2.ensures.value, more_words c.args.nb_frag k.table.room.pieces (omega (arith, r.few, pieces)), inv.picks_held)
+    let words = line_fits k c.self.inside.kept.value c.args.self.now c.args.nb_frag c.args.frag_size c.args.rows c.deref_mut-kept.ensures.value c.self.view_is (sym c.fits.ensures ∙ c.if-not-fits.false) in
+    omega (arith, c.words_for-2.ensures.value, words, (kept_still k c.self.inside.kept.value c.deref_mut-kept.ensures.value c.self.invariant).picks_held)
 
 pub invariant_of-self : goal.invariant_of-self
 invariant_of-self g c =
     let k : Kept g.row.W g.row.B = c.deref_mut-kept.result.now in
-    let same : k ≡ c.self.inside.kept.value = c.deref_mut-kept.ensures.value in
-    let inv : IsSolver k.table k.stage (vec_capacity k.line) (vec_capacity k.picks) k.line.items k.picks.items k.part.items =
-    subst (λ (x : Kept g.row.W g.row.B). IsSolver x.table x.stage (vec_capacity x.line) (vec_capacity x.picks) x.line.items x.picks.items x.part.items) (sym same) c.self.invariant in
+    let inv = kept_still k c.self.inside.kept.value c.deref_mut-kept.ensures.value c.self.invariant in
     let more : gained_held c.begin.new.self.places < c.begin.new.self.shape.nb_frag =
     rw (c.begin.ensures.places, c.begin.ensures.shape) (more_at_first c.args.nb_frag c.requires.some) in
     let small : c.begin.new.self.shape.frag_size ≡ c.args.frag_size = ap (λ (s : Shape). s.frag_size) c.begin.ensures.shape in
@@ -80,8 +62,7 @@ invariant_of-self g c =
 pub returns-clause-begins : goal.returns-clause-begins
 returns-clause-begins g c =
     let k : Kept g.row.W g.row.B = c.deref_mut-kept.result.now in
-    let same : k ≡ c.self.inside.kept.value = c.deref_mut-kept.ensures.value in
-    let view : held_of k.stage k.table ≡ c.args.self.now = ap (λ (x : Kept g.row.W g.row.B). held_of x.stage x.table) same ∙ c.self.view_is in
+    let view = held_still k c.self.inside.kept.value c.args.self.now c.deref_mut-kept.ensures.value c.self.view_is in
     let size : c.begin.new.self.shape.frag_size ≡ c.args.frag_size = ap (λ (s : Shape). s.frag_size) c.begin.ensures.shape in
     let nb : c.begin.new.self.shape.nb_frag ≡ c.args.nb_frag = ap (λ (s : Shape). s.nb_frag) c.begin.ensures.shape in
     let some : 1 ≤ c.begin.new.self.shape.nb_frag = omega (arith, nb, c.requires.some) in

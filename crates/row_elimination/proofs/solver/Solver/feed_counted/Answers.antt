@@ -1,22 +1,19 @@
 use Rattle.std.specs.Prelude.{vec_capacity}
-use Rattle.std.proofs.Common.{◌≡◌, List, ℕ, length, sym, ap, ◌∙◌, subst}
+use Rattle.std.proofs.Common.{◌≡◌, List, ℕ, length, ap, ◌∙◌, subst}
 use Rattle.row_elimination.specs.declared.stages.Stage.TheVariants as stage
 use Rattle.row_elimination.specs.declared.solver.Kept.{Kept}
 use Rattle.row_elimination.specs.HeldSolver.{Held}
-use Rattle.row_elimination.specs.HeldTaking.{held_of}
 use Rattle.row_elimination.specs.SolverInside.{IsSolver}
 use Rattle.row_elimination.specs.Work.{CountsWork}
 use Rattle.row_elimination.proofs.Gridding.{written}
-use Rattle.row_elimination.proofs.Solving.{still_solver, left_to_gain, fed_is, feeds}
+use Rattle.row_elimination.proofs.Solving.{kept_still, held_still, still_solver, left_to_gain, fed_is, feeds}
 use Rattle.row_elimination.proofs.solver.Solver.feed_counted.Goals as goal
 
 pub invariant_of-self : goal.invariant_of-self
 invariant_of-self g c =
     let k : Kept g.row.W g.row.B = c.deref_mut-kept.result.now in
-    let same : k ≡ c.self.inside.kept.value = c.deref_mut-kept.ensures.value in
-    let inv : IsSolver k.table k.stage (vec_capacity k.line) (vec_capacity k.picks) k.line.items k.picks.items k.part.items =
-    subst (λ (x : Kept g.row.W g.row.B). IsSolver x.table x.stage (vec_capacity x.line) (vec_capacity x.picks) x.line.items x.picks.items x.part.items) (sym same) c.self.invariant in
-    let view : held_of k.stage k.table ≡ c.args.self.now = ap (λ (x : Kept g.row.W g.row.B). held_of x.stage x.table) same ∙ c.self.view_is in
+    let inv = kept_still k c.self.inside.kept.value c.deref_mut-kept.ensures.value c.self.invariant in
+    let view = held_still k c.self.inside.kept.value c.args.self.now c.deref_mut-kept.ensures.value c.self.view_is in
     let line : List ℕ = k.line.items in
     let picks : List ℕ = k.picks.items in
     let part : List ℕ = k.part.items in
@@ -36,8 +33,7 @@ invariant_of-self g c =
 pub returns-clause-fed : goal.returns-clause-fed
 returns-clause-fed g c =
     let k : Kept g.row.W g.row.B = c.deref_mut-kept.result.now in
-    let same : k ≡ c.self.inside.kept.value = c.deref_mut-kept.ensures.value in
-    let view : held_of k.stage k.table ≡ c.args.self.now = ap (λ (x : Kept g.row.W g.row.B). held_of x.stage x.table) same ∙ c.self.view_is in
+    let view = held_still k c.self.inside.kept.value c.args.self.now c.deref_mut-kept.ensures.value c.self.view_is in
     feeds c.take-fed.result c.args.self.now _ c.args.n c.args.part.now (c.take-fed.ensures.fed.room.room ∙ ap (λ (h : Held). h.extent) view)
     (fed_is c.take-fed.result k.table c.take-fed.new.table k.stage c.stage_after-kept.result c.args.self.now c.args.n c.args.part.now view c.requires.receiving
     c.stage_after-kept.ensures c.take-fed.ensures.fed.fed)
@@ -45,6 +41,5 @@ returns-clause-fed g c =
 pub returns-clause-counted : goal.returns-clause-counted
 returns-clause-counted g c =
     let k : Kept g.row.W g.row.B = c.deref_mut-kept.result.now in
-    let same : k ≡ c.self.inside.kept.value = c.deref_mut-kept.ensures.value in
-    let view : held_of k.stage k.table ≡ c.args.self.now = ap (λ (x : Kept g.row.W g.row.B). held_of x.stage x.table) same ∙ c.self.view_is in
+    let view = held_still k c.self.inside.kept.value c.args.self.now c.deref_mut-kept.ensures.value c.self.view_is in
     subst (λ (h : Held). CountsWork h.shape c.args.n c.args.draws.now c.take-fed.new.draws c.args.sums.now c.take-fed.new.sums) view c.take-fed.ensures.counted

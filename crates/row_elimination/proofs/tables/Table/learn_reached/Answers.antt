@@ -6,8 +6,7 @@ use Rattle.row_elimination.specs.HeldPlaces.{Place, free, piece, is_piece, grown
 use Rattle.row_elimination.specs.HeldStorage.{places_in, Slots, SameShape}
 use Rattle.row_elimination.specs.HeldSteps.{IsNew, Knows}
 use Rattle.row_elimination.specs.HeldTable.{Grid}
-use Rattle.row_elimination.proofs.Counting.{gained-le}
-use Rattle.row_elimination.proofs.Gridding.{stored_at, file_row, written, lead_free, learned_kind, learned}
+use Rattle.row_elimination.proofs.Gridding.{table_of, gained_few, stored_at, file_row, written, lead_free, learned_kind, learned}
 use Rattle.row_elimination.proofs.tables.Table.learn_reached.Goals as goal
 
 pub add_piece_and_row-requires : goal.add_piece_and_row-requires
@@ -51,14 +50,7 @@ mark-requires-clause-words g c =
 
 pub overflow_add-self : goal.overflow_add-self
 overflow_add-self g c =
-    let i = c.self.invariant.grid in
-    omega (
-      arith,
-      i.gained_all,
-      i.most,
-      i.reduced.sized,
-      gained-le (places_in c.self.inside.frag_size c.self.inside.area.items c.self.inside.arena.value (take c.self.inside.nb_frag c.self.inside.columns.items)),
-    )
+    omega (arith, gained_few _ _ _ _ _ _ _ _ _ _ c.self.invariant.grid, c.self.invariant.grid.most)
 
 pub invariant_of-self : goal.invariant_of-self
 invariant_of-self g c =
@@ -98,14 +90,7 @@ invariant_of-self g c =
       written s.area.len now.area area (c.add_piece_and_row.auto.area ∙ c.deref_mut-2.ensures.len),
       written s.known.len c.mark.new.known s.known.items (c.mark.auto.known ∙ c.deref_mut-4.ensures.len),
     )
-    (record {
-      words_few = c.self.invariant.words_few;
-      bytes_few = c.self.invariant.bytes_few;
-      memory = c.self.invariant.memory;
-      within = c.self.invariant.within;
-      area_fits = omega (arith, c.add_piece_and_row.auto.area, ap length c.deref_mut-2.ensures.value, c.self.invariant.area_fits);
-      pieces_fit = c.self.invariant.pieces_fit;
-      grid = learned nb size s.rows s.count s.gained cols (length part) c.args.k c.args.p columns now.columns s.spare.items s.known.items c.mark.new.known area now.area arena now.arena l part c.args.piece.now
-          i cn sz new known_is fresh (c.add_piece_and_row.auto.columns ∙ ap length c.deref_mut.ensures.value) (c.mark.auto.known ∙ ap length c.deref_mut-4.ensures.value)
-          same slots told marked;
-    })
+    (table_of c.self.invariant (c.add_piece_and_row.auto.area ∙ ap length c.deref_mut-2.ensures.value)
+    (learned nb size s.rows s.count s.gained cols (length part) c.args.k c.args.p columns now.columns s.spare.items s.known.items c.mark.new.known area now.area arena now.arena l part c.args.piece.now
+    i cn sz new known_is fresh (c.add_piece_and_row.auto.columns ∙ ap length c.deref_mut.ensures.value) (c.mark.auto.known ∙ ap length c.deref_mut-4.ensures.value)
+    same slots told marked))

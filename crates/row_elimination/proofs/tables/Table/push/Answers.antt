@@ -1,4 +1,4 @@
-use Rattle.std.proofs.Common.{◌≡◌, ◌<◌, ℕ, List, length, get_or, take, set, sym, ap, subst, ◌∙◌, arith}
+use Rattle.std.proofs.Common.{◌≡◌, ◌<◌, ℕ, List, length, get_or, take, set, refl, sym, ap, subst, ◌∙◌, arith}
 use Rattle.std.proofs.lemmas.Grind.{get_or_default_zero}
 use Rattle.row_arena.specs.Rows.{Arena, line_in, words_for}
 use Rattle.row_elimination.specs.declared.columns.Column.{Column}
@@ -7,8 +7,7 @@ use Rattle.row_elimination.specs.HeldPlaces.{Place, rows_held, grown}
 use Rattle.row_elimination.specs.HeldStorage.{places_in, SameShape}
 use Rattle.row_elimination.specs.HeldSteps.{IsNew}
 use Rattle.row_elimination.specs.HeldTable.{Grid}
-use Rattle.row_elimination.proofs.Counting.{gained-le}
-use Rattle.row_elimination.proofs.Gridding.{stored_at, file_row, written, pushed}
+use Rattle.row_elimination.proofs.Gridding.{table_of, gained_few, stored_at, file_row, written, pushed}
 use Rattle.row_elimination.proofs.tables.Table.push.Goals as goal
 
 pub index-slot-requires : goal.index-slot-requires
@@ -51,14 +50,7 @@ overflow_add-self g c =
 
 pub overflow_add-self-2 : goal.overflow_add-self-2
 overflow_add-self-2 g c =
-    let i = c.self.invariant.grid in
-    omega (
-      arith,
-      i.gained_all,
-      i.most,
-      i.reduced.sized,
-      gained-le (places_in c.self.inside.frag_size c.self.inside.area.items c.self.inside.arena.value (take c.self.inside.nb_frag c.self.inside.columns.items)),
-    )
+    omega (arith, gained_few _ _ _ _ _ _ _ _ _ _ c.self.invariant.grid, c.self.invariant.grid.most)
 
 pub invariant_of-self : goal.invariant_of-self
 invariant_of-self g c =
@@ -89,13 +81,6 @@ invariant_of-self g c =
     c.deref_mut.ensures.value (c.add_row.ensures.places area)) in
     let shape : SameShape arena c.add_row.new.arena = subst (λ (a : Arena). SameShape a c.add_row.new.arena) c.deref_mut-2.ensures.value c.add_row.ensures.shape in
     rw (written s.columns.len c.add_row.new.columns columns (c.add_row.auto.columns ∙ c.deref_mut.ensures.len))
-    (record {
-      words_few = c.self.invariant.words_few;
-      bytes_few = c.self.invariant.bytes_few;
-      memory = c.self.invariant.memory;
-      within = c.self.invariant.within;
-      area_fits = c.self.invariant.area_fits;
-      pieces_fit = c.self.invariant.pieces_fit;
-      grid = pushed nb size s.rows s.count s.gained cols (length part) c.index-slot.result.now c.args.p columns c.add_row.new.columns s.spare.items s.known.items area arena c.add_row.new.arena l part
-          i cn sz slot new more (c.add_row.auto.columns ∙ ap length c.deref_mut.ensures.value) shape os told;
-    })
+    (table_of c.self.invariant refl
+    (pushed nb size s.rows s.count s.gained cols (length part) c.index-slot.result.now c.args.p columns c.add_row.new.columns s.spare.items s.known.items area arena c.add_row.new.arena l part
+    i cn sz slot new more (c.add_row.auto.columns ∙ ap length c.deref_mut.ensures.value) shape os told))

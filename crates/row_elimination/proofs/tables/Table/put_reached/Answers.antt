@@ -6,8 +6,7 @@ use Rattle.row_elimination.specs.declared.columns.Column.TheVariants.{Piece}
 use Rattle.row_elimination.specs.HeldPlaces.{Place, free, piece, rows_held}
 use Rattle.row_elimination.specs.HeldStorage.{places_in}
 use Rattle.row_elimination.specs.HeldTable.{Grid}
-use Rattle.row_elimination.proofs.Counting.{gained-le}
-use Rattle.row_elimination.proofs.Gridding.{written, put_in}
+use Rattle.row_elimination.proofs.Gridding.{table_of, gained_few, written, put_in}
 use Rattle.row_elimination.proofs.tables.Table.put_reached.Goals as goal
 
 pub mark-requires-clause-words : goal.mark-requires-clause-words
@@ -16,14 +15,7 @@ mark-requires-clause-words g c =
 
 pub overflow_add-self : goal.overflow_add-self
 overflow_add-self g c =
-    let i = c.self.invariant.grid in
-    omega (
-      arith,
-      i.gained_all,
-      i.most,
-      i.reduced.sized,
-      gained-le (places_in c.self.inside.frag_size c.self.inside.area.items c.self.inside.arena.value (take c.self.inside.nb_frag c.self.inside.columns.items)),
-    )
+    omega (arith, gained_few _ _ _ _ _ _ _ _ _ _ c.self.invariant.grid, c.self.invariant.grid.most)
 
 pub invariant_of-self : goal.invariant_of-self
 invariant_of-self g c =
@@ -53,15 +45,8 @@ invariant_of-self g c =
       written c.self.inside.area.len c.add_piece.new.area area (c.add_piece.auto.area ∙ c.deref_mut-2.ensures.len),
       written c.self.inside.known.len c.mark.new.known known (c.mark.auto.known ∙ c.deref_mut-3.ensures.len),
     )
-    (record {
-      words_few = c.self.invariant.words_few;
-      bytes_few = c.self.invariant.bytes_few;
-      memory = c.self.invariant.memory;
-      within = c.self.invariant.within;
-      area_fits = omega (arith, c.add_piece.auto.area, ap length c.deref_mut-2.ensures.value, c.self.invariant.area_fits);
-      pieces_fit = c.self.invariant.pieces_fit;
-      grid = put_in nb size c.self.inside.rows c.self.inside.count c.self.inside.gained c.args.k columns c.add_piece.new.columns c.self.inside.spare.items known c.mark.new.known
-          area c.add_piece.new.area arena part c.self.invariant.grid lt sized fresh none
-          (c.add_piece.auto.columns ∙ ap length c.deref_mut.ensures.value) (c.mark.auto.known ∙ ap length c.deref_mut-3.ensures.value)
-          cols told_here marked;
-    })
+    (table_of c.self.invariant (c.add_piece.auto.area ∙ ap length c.deref_mut-2.ensures.value)
+    (put_in nb size c.self.inside.rows c.self.inside.count c.self.inside.gained c.args.k columns c.add_piece.new.columns c.self.inside.spare.items known c.mark.new.known
+    area c.add_piece.new.area arena part c.self.invariant.grid lt sized fresh none
+    (c.add_piece.auto.columns ∙ ap length c.deref_mut.ensures.value) (c.mark.auto.known ∙ ap length c.deref_mut-3.ensures.value)
+    cols told_here marked))

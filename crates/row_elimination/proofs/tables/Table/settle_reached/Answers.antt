@@ -7,23 +7,13 @@ use Rattle.row_elimination.specs.HeldPlaces.{Place, piece}
 use Rattle.row_elimination.specs.HeldStorage.{places_in}
 use Rattle.row_elimination.specs.HeldSteps.{Knows}
 use Rattle.row_elimination.specs.HeldTable.{Grid}
-use Rattle.row_elimination.proofs.Gridding.{written, column_read, settled_count, settled, settled_already}
+use Rattle.row_elimination.proofs.Gridding.{table_of, written, column_read, leads_row, settled_count, settled, settled_already}
 use Rattle.row_elimination.proofs.tables.Table.settle_reached.Goals as goal
 
 pub overflow_sub-self : goal.overflow_sub-self
 overflow_sub-self g c =
-    let shape : Shape = record { nb_frag = c.self.inside.nb_frag; frag_size = c.self.inside.frag_size; rows = c.self.inside.rows } in
-    let columns : List Column = c.self.inside.columns.items in
-    let os : List Column = take c.self.inside.nb_frag columns in
-    let known : Knows shape (places_in c.self.inside.frag_size c.self.inside.area.items c.self.inside.arena.value os) c.args.k c.args.piece.now =
-    subst (λ (g : Grid). Knows g.shape g.places c.args.k c.args.piece.now) (sym c.self.view_is) c.requires.known in
-    let at : get_or os c.args.k Free ≡ c.index.result.now =
-    column_read columns c.self.inside.nb_frag c.args.k c.index.result.now known.inside (omega (arith, c.self.invariant.grid.most, c.self.invariant.grid.columns_sized)) c.index.ensures in
-    omega (
-      arith,
-      c.self.invariant.grid.counted,
-      settled_count shape c.self.inside.area.items c.self.inside.arena.value os c.args.k c.in-Row.slot c.args.piece.now known (at ∙ sym c.in-Row.ensures.same),
-    )
+    leads_row _ _ _ _ _ c.args.k c.in-Row.slot _ _ _ _ _ c.args.piece.now _ c.self.invariant.grid
+    (subst (λ (g : Grid). Knows g.shape g.places c.args.k c.args.piece.now) (sym c.self.view_is) c.requires.known) c.index.ensures c.in-Row.ensures.same
 
 pub invariant_of-self : goal.invariant_of-self
 invariant_of-self g c =
@@ -58,18 +48,11 @@ invariant_of-self g c =
       written c.self.inside.area.len c.add_piece.new.area area (c.add_piece.auto.area ∙ c.deref_mut-in-Row.ensures.len),
       written c.self.inside.known.len c.mark.new.known marks (c.mark.auto.known ∙ c.deref_mut-in-Row-2.ensures.len),
     )
-    (record {
-      words_few = c.self.invariant.words_few;
-      bytes_few = c.self.invariant.bytes_few;
-      memory = c.self.invariant.memory;
-      within = c.self.invariant.within;
-      area_fits = omega (arith, c.add_piece.auto.area, ap length c.deref_mut-in-Row.ensures.value, c.self.invariant.area_fits);
-      pieces_fit = c.self.invariant.pieces_fit;
-      grid = settled nb size rows count (count - 1) c.self.inside.gained c.args.k c.in-Row.slot columns c.add_piece.new.columns spare marks c.mark.new.known area c.add_piece.new.area arena part
-          c.self.invariant.grid known is (omega arith)
-          (c.add_piece.auto.columns ∙ ap length c.deref_mut.ensures.value) (c.mark.auto.known ∙ ap length c.deref_mut-in-Row-2.ensures.value)
-          cols told_here marked;
-    })
+    (table_of c.self.invariant (c.add_piece.auto.area ∙ ap length c.deref_mut-in-Row.ensures.value)
+    (settled nb size rows count (count - 1) c.self.inside.gained c.args.k c.in-Row.slot columns c.add_piece.new.columns spare marks c.mark.new.known area c.add_piece.new.area arena part
+    c.self.invariant.grid known is (omega arith)
+    (c.add_piece.auto.columns ∙ ap length c.deref_mut.ensures.value) (c.mark.auto.known ∙ ap length c.deref_mut-in-Row-2.ensures.value)
+    cols told_here marked))
 
 pub mark-requires-clause-words : goal.mark-requires-clause-words
 mark-requires-clause-words g c =
@@ -93,17 +76,6 @@ returns-in_default g c =
 
 pub index_mut-requires : goal.index_mut-requires
 index_mut-requires g c =
-    let shape : Shape = record { nb_frag = c.self.inside.nb_frag; frag_size = c.self.inside.frag_size; rows = c.self.inside.rows } in
-    let columns : List Column = c.self.inside.columns.items in
-    let os : List Column = take c.self.inside.nb_frag columns in
-    let known : Knows shape (places_in c.self.inside.frag_size c.self.inside.area.items c.self.inside.arena.value os) c.args.k c.args.piece.now =
-    subst (λ (g : Grid). Knows g.shape g.places c.args.k c.args.piece.now) (sym c.self.view_is) c.requires.known in
-    let at : get_or os c.args.k Free ≡ c.index.result.now =
-    column_read columns c.self.inside.nb_frag c.args.k c.index.result.now known.inside (omega (arith, c.self.invariant.grid.most, c.self.invariant.grid.columns_sized)) c.index.ensures in
-    omega (
-      arith,
-      c.self.invariant.grid.counted,
-      c.self.invariant.grid.slots.few,
-      c.self.invariant.grid.spare_sized,
-      settled_count shape c.self.inside.area.items c.self.inside.arena.value os c.args.k c.in-Row.slot c.args.piece.now known (at ∙ sym c.in-Row.ensures.same),
-    )
+    let some = leads_row _ _ _ _ _ c.args.k c.in-Row.slot _ _ _ _ _ c.args.piece.now _ c.self.invariant.grid
+    (subst (λ (g : Grid). Knows g.shape g.places c.args.k c.args.piece.now) (sym c.self.view_is) c.requires.known) c.index.ensures c.in-Row.ensures.same in
+    omega (arith, some, c.self.invariant.grid.counted, c.self.invariant.grid.slots.few, c.self.invariant.grid.spare_sized)
