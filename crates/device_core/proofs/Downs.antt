@@ -65,6 +65,13 @@ delivered_makes old mid then new t word mark down d first second third = record 
   answers = λ device stands. second.answers _ (first device stands);
 }
 
+-- a reboot that was due leaves what is held
+held_through : {F : Type 0} (seen : F → FlashSeen) (old mid : HeldStore F) (t : ℕ) (device : DeviceState) → mid ≡ old
+    → StateIsHeld old.state device.sessions (seen old.flash) → StateIsHeld mid.state (after_due_reboot t device).sessions (seen mid.flash)
+held_through {F} seen old mid t device same held =
+    subst (λ (s : HeldStore F). StateIsHeld s.state (after_due_reboot t device).sessions (seen s.flash)) (sym same)
+    (subst (λ (x : SessionTable). StateIsHeld old.state x (seen old.flash)) (sym (reboot_keeps t device).sessions) held)
+
 -- what a stop leaves
 pub delivered_moments : {F A : Type 0} (seen : F → FlashSeen)
     (old mid : HeldDevice F) (new : HeldStore F) (r : Result A fault.FlashFault) (t word mark : ℕ) (down : Downlink) (after : DeviceState → DeviceState)
@@ -77,10 +84,7 @@ pub delivered_moments : {F A : Type 0} (seen : F → FlashSeen)
     (seen old.sessions.flash) (seen new.flash)
 delivered_moments {F} seen old mid new r t word mark down after same becomes keeps device stands here held =
     let m : DeviceState = after_due_reboot t device in
-    let table_is : m.sessions ≡ device.sessions = (reboot_keeps t device).sessions in
-    let held_mid : StateIsHeld mid.sessions.state m.sessions (seen mid.sessions.flash) =
-    subst (λ (s : HeldStore F). StateIsHeld s.state m.sessions (seen s.flash)) (sym same)
-    (subst (λ (x : SessionTable). StateIsHeld old.sessions.state x (seen old.sessions.flash)) (sym table_is) held) in
+    let held_mid = held_through seen old.sessions mid.sessions t device same held in
     let run = keeps.moments m (becomes device stands) held_mid in
     leaves_only (LiesOneOf old.sessions.layout (heard_tables t word mark down m)) (λ c. TableLies old.sessions.layout device.sessions c) _ _ here
     (subst (λ (s : HeldStore F). LeavesBesides (LiesOneOf s.layout (heard_tables t word mark down m)) (seen s.flash) (seen new.flash)) same run)
@@ -95,10 +99,7 @@ pub delivered_again : {F A : Type 0} (seen : F → FlashSeen)
     → (b : List ℕ) → (seen new.flash).holds b → LiesOneOf old.sessions.layout (tables_passed t word mark down device) b
 delivered_again {F} seen old mid new e t word mark down after same becomes keeps device stands held b now =
     let m : DeviceState = after_due_reboot t device in
-    let table_is : m.sessions ≡ device.sessions = (reboot_keeps t device).sessions in
-    let held_mid : StateIsHeld mid.sessions.state m.sessions (seen mid.sessions.flash) =
-    subst (λ (s : HeldStore F). StateIsHeld s.state m.sessions (seen s.flash)) (sym same)
-    (subst (λ (x : SessionTable). StateIsHeld old.sessions.state x (seen old.sessions.flash)) (sym table_is) held) in
+    let held_mid = held_through seen old.sessions mid.sessions t device same held in
     subst (λ (s : HeldStore F). LiesOneOf s.layout (heard_tables t word mark down m) b) same
     (keeps.again m (becomes device stands) held_mid b now)
 

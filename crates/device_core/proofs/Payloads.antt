@@ -1,5 +1,5 @@
 -- What calls that bring a payload promise, put together of what their parts do.
-use Rattle.std.proofs.Common.{◌≡◌, ◌≢◌, ◌⊎◌, ℕ, true, false, List, Result, Ok, Err, inl, inr, refl, sym, ap, subst, ◌∙◌, arith}
+use Rattle.std.proofs.Common.{◌≡◌, ◌≢◌, ◌⊎◌, ℕ, true, false, List, Ok, Err, inl, inr, refl, sym, ap, subst, ◌∙◌, arith}
 use Rattle.package_grammar.specs.declared.downlink.Downlink.{Downlink}
 use Rattle.mc_frames.specs.declared.fault.FrameFault.{FrameFault}
 use Rattle.flash_session.specs.Contents.{HasRisen}
@@ -10,7 +10,7 @@ use Rattle.wire_base.specs.declared.refusal.Direction.TheVariants as direction
 use Rattle.package_grammar.specs.Reading.{reading_of}
 use Rattle.device_core.specs.declared.delivered.Aired.TheVariants.{Heard, Foreign}
 use Rattle.device_core.specs.declared.delivered.Delivered.{Delivered}
-use Rattle.device_core.specs.declared.delivered.Delivered.TheVariants.{Deaf, Refused, OutboxFull, Done, FlashFault, Down}
+use Rattle.device_core.specs.declared.delivered.Delivered.TheVariants.{FlashFault, Down}
 use Rattle.device_core.specs.Deliver.{Outcome, arrival, heard_delivery}
 use Rattle.device_core.specs.Device.{DeviceState, after_deaf, with_counts}
 use Rattle.device_core.specs.Firmware.{after_due_reboot}
@@ -21,7 +21,7 @@ use Rattle.device_core.specs.HeldSessions.{HeldStore, IsDown, IsUp, StateIsHeld,
 use Rattle.device_core.specs.Passed.{heard_tables, tables_aired, LiesOneOf}
 use Rattle.device_core.specs.Radio.{brought}
 use Rattle.device_core.specs.SessionTable.{SessionTable}
-use Rattle.device_core.proofs.Downs.{not_both, makes_down, down_stored, down_moments, delivered_makes, delivered_stored, delivered_moments, delivered_again, failed_within, same_heard, aired_makes, aired_fails, aired_stored, aired_moments, aired_again, foreign_makes, foreign_stored}
+use Rattle.device_core.proofs.Downs.{makes_down, down_stored, down_moments, delivered_makes, delivered_stored, delivered_moments, delivered_again, failed_within, same_heard, aired_makes, aired_fails, aired_stored, aired_moments, aired_again, foreign_makes, foreign_stored}
 use Rattle.device_core.proofs.Stored.{keeps_at}
 
 -- at a device that is down
@@ -50,20 +50,10 @@ pub heard_no_fault : Heard Down ≢ Heard FlashFault
 heard_no_fault is = down_no_fault (same_heard Down FlashFault is)
 
 plain_up : (d : Delivered) → IsPlain d → d ≢ Down
-plain_up Deaf plain is = cc
-plain_up (Refused refusal) plain is = cc
-plain_up (OutboxFull n) plain is = cc
-plain_up Done plain is = cc
-plain_up FlashFault plain is = absurd plain
-plain_up Down plain is = absurd plain
+plain_up d plain is = subst IsPlain is plain
 
 plain_fine : (d : Delivered) → IsPlain d → d ≢ FlashFault
-plain_fine Deaf plain is = cc
-plain_fine (Refused refusal) plain is = cc
-plain_fine (OutboxFull n) plain is = cc
-plain_fine Done plain is = cc
-plain_fine FlashFault plain is = absurd plain
-plain_fine Down plain is = absurd plain
+plain_fine d plain is = subst IsPlain is plain
 
 -- a payload between two reboots that are due
 pub delivers_ok : {F : Type 0} (seen : F → FlashSeen)

@@ -1,4 +1,4 @@
-use Rattle.std.proofs.Common.{◌∙◌, refl, sym, ap, subst, arith, List, length}
+use Rattle.std.proofs.Common.{◌∙◌, refl, sym, ap, subst, arith, List}
 use Rattle.package_grammar.specs.declared.command.Command.{Command}
 use Rattle.package_grammar.specs.HeldMessage.{HeldMessage}
 use Rattle.device_core.specs.Device.{DeviceState}

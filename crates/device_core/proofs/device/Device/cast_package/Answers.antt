@@ -1,14 +1,11 @@
 use Rattle.std.proofs.Common.{refl}
 use Rattle.package_grammar.specs.declared.command.Command.TheVariants.{Cast}
 use Rattle.cast_wire.specs.declared.cmd.Cmd.TheVariants.{PackageVersionAns}
-use Rattle.device_core.specs.declared.uplink.Answer.{Answer}
 use Rattle.device_core.specs.Answers.{answer_at_once}
 use Rattle.device_core.proofs.Sending.{step_of}
 use Rattle.device_core.proofs.device.Device.cast_package.Goals as goal
 
 pub returns : goal.returns
 returns g c =
-    let answer : Answer = answer_at_once c.args.here (Cast (PackageVersionAns c.identifier_of.result 1)) in
-    step_of c.args.self.now c.args.self.now c.send.new.self answer _
-    c.send.ensures refl refl
+    step_of c.args.self.now c.args.self.now c.send.new.self (answer_at_once c.args.here (Cast (PackageVersionAns c.identifier_of.result 1))) _ c.send.ensures refl refl
     (λ table. rw (c.identifier_of.ensures) refl)

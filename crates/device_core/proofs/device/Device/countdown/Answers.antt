@@ -1,6 +1,5 @@
 use Rattle.std.proofs.Common.{refl}
 use Rattle.device_core.specs.Firmware.{countdown_step}
-use Rattle.device_core.specs.declared.uplink.Answer.{Answer}
 use Rattle.device_core.specs.Answers.{answer_at_once}
 use Rattle.device_core.proofs.Sending.{step_of}
 use Rattle.device_core.proofs.device.Device.countdown.Goals as goal
@@ -8,7 +7,5 @@ use Rattle.device_core.proofs.device.Device.countdown.Goals as goal
 pub returns : goal.returns
 unfolding countdown_step
 returns g c =
-    let answer : Answer = answer_at_once c.args.here c.countdown_answer.result in
-    step_of c.args.self.now (record c.args.self.now { reboot = c.chosen_moment-self-inside.result }) c.send.new.self answer _
-    (rw (← c.self.view_is) c.send.ensures) refl refl
+    step_of c.args.self.now (record c.args.self.now { reboot = c.chosen_moment-self-inside.result }) c.send.new.self (answer_at_once c.args.here c.countdown_answer.result) _ (rw (← c.self.view_is) c.send.ensures) refl refl
     (λ table. rw (c.countdown_answer.ensures.value, c.chosen_moment-self-inside.ensures, c.now-now.ensures, ← c.self.view_is) refl)

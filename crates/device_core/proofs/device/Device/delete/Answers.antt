@@ -1,4 +1,4 @@
-use Rattle.std.proofs.Common.{true, false, ◌≡◌, refl, None, sym, ap}
+use Rattle.std.proofs.Common.{refl, None, sym, ap}
 use Rattle.device_core.specs.HeldDevice.{HeldDevice}
 use Rattle.device_core.specs.SessionTable.{SessionTable, with_session}
 use Rattle.device_core.proofs.Heard.{delete_steps, not_some}

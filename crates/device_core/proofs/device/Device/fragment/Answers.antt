@@ -1,4 +1,4 @@
-use Rattle.std.proofs.Common.{true, false, ◌≡◌, refl, sym, ap, ◌∙◌}
+use Rattle.std.proofs.Common.{◌≡◌, refl, sym, ap, ◌∙◌}
 use Rattle.frag_session.specs.declared.answers.Heard.{Heard}
 use Rattle.image_slots.specs.HeldSlots.{HeldSlots}
 use Rattle.device_core.specs.HeldDevice.{HeldDevice}

@@ -1,5 +1,4 @@
-use Rattle.std.proofs.Common.{◌≡◌, Err, refl, sym, ap, subst}
-use Rattle.flash_session.specs.declared.fault.OpenFault.TheVariants as fault
+use Rattle.std.proofs.Common.{refl, sym, ap, subst}
 use Rattle.session_store.specs.CompleteFlags.{flags_of}
 use Rattle.device_core.specs.HeldDevice.{HeldDevice}
 use Rattle.device_core.specs.HeldSessions.{HeldStore, StateStands, StateIsHeld}

@@ -1,4 +1,4 @@
-use Rattle.std.proofs.Common.{true, false, ◌≡◌, refl, sym, ap}
+use Rattle.std.proofs.Common.{refl, sym, ap}
 use Rattle.device_core.specs.HeldDevice.{HeldDevice}
 use Rattle.device_core.proofs.Heard.{setup_steps}
 use Rattle.device_core.proofs.Keeping.{keeps_ok, keeps_err}
