@@ -1,0 +1,56 @@
+//! What a device is configured with, as the line of a script says.
+
+ghost use Rattle.std.specs.Prelude.{◌≡◌, true, IfSome};
+
+use device_core::{Class, DeviceConfig, MAX_AREA};
+use mc_keys::RootKind;
+use script_lines::{Form, form, in_range};
+
+/// Bytes of the file for each of the four sessions, as a device of a script has them.
+pub const SPAN: u32 = 631_573;
+
+/// The configuration that a device line tells; None where it is none. Its sessions are held in its flash.
+pub fn config_of(line: &[u8]) -> Option<DeviceConfig>
+    ensures { IfSome result (λ config. config.held ≡ true) }
+{
+    let read = form(line)?;
+    if !in_range(&read) {
+        return None;
+    }
+    match read {
+        Form::Device {
+            id: _id,
+            class,
+            hw,
+            rows,
+            offset,
+            key,
+            descriptor,
+            v1,
+            k11,
+            flash: _flash,
+        } => Some(DeviceConfig {
+            class: class_of(class),
+            hw: u32::try_from(hw).ok()?,
+            formats: if v1 { 1 } else { 2 },
+            rows: u16::try_from(rows).ok()?,
+            offset: u32::try_from(offset).ok()?,
+            key,
+            root: if k11 { RootKind::V11 } else { RootKind::V10 },
+            descriptor,
+            sessions: 4,
+            groups: 4,
+            area: MAX_AREA,
+            held: true,
+            span: SPAN,
+        }),
+        _ => None,
+    }
+}
+
+fn class_of(class: script_lines::Class) -> Class {
+    match class {
+        script_lines::Class::A => Class::A,
+        script_lines::Class::C => Class::C,
+    }
+}
