@@ -4,6 +4,7 @@ import fuota
 from . import state
 from .carriers import Lost
 from .plan import Wrong, gps
+from .theory import FRAGMENT_HEAD
 
 SETUP = ("version", "group", "fragments", "window")
 # The ms until a network server that did not take a payload is tried again: the first time, and at most.
@@ -325,7 +326,7 @@ class Campaign:
         now = self.carrier.now()
         if self.is_over(max(self.pace.at[self.plan.group is not None], now)):
             return 0
-        air = self.plan.air(3 + self.plan.size, self.plan.group is not None)
+        air = self.plan.air(FRAGMENT_HEAD + self.plan.size, self.plan.group is not None)
         begin = (self.within(now) or now) - now
         copies = 1 if self.plan.group else len(self.contacts)
         return begin + (self.plan.fragments - self.sent) * copies * self.plan.distance(air)

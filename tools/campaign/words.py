@@ -128,6 +128,7 @@ def stop(*_):
 
 def main(words):
     signal.signal(signal.SIGTERM, stop)
+    asked = None
     try:
         if words[:1] == ["status"]:
             return status(words[1:])
@@ -138,7 +139,8 @@ def main(words):
         print(f"run_campaign: {why}", file=sys.stderr)
         return WRONG
     except OSError as why:
-        print(f"run_campaign: {why.filename or asked.folder}: {why.strerror}; nothing more was sent", file=sys.stderr)
+        place = why.filename or getattr(asked, "folder", "standard output")
+        print(f"run_campaign: {place}: {why.strerror}; nothing more was sent", file=sys.stderr)
     except (carriers.Refusing, carriers.Ended, fuota.Error) as why:
         print(f"run_campaign: {why}", file=sys.stderr)
     except KeyboardInterrupt:
