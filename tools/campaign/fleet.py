@@ -6,7 +6,7 @@ import random
 import fuota
 
 from .carriers import Carrier, Uplink
-from .plan import gps
+from .plan import Wrong, gps
 
 # After an uplink a device of class A hears for the first time, and fetches so many ms later what waits still (FPending).
 FIRST_WINDOW, FETCH = 1_000, 3_000
@@ -125,6 +125,8 @@ class Rehearsal(Carrier):
     name = "rehearsal"
 
     def __init__(self, plan, library, loss, seed):
+        if plan.window and plan.window.kind == "B":
+            raise Wrong(f"{plan.file}: window.class: a rehearsal has class C alone")
         self.t = plan.window.opens - 15 * plan.retry.distance if plan.window else super().now()
         self.fleet = Fleet(plan, library, self.t, plan.retry.distance // 2, loss, seed)
 

@@ -132,6 +132,7 @@ class Campaign:
         if line.get("sent") == "request" and contact:
             contact.was_asked(line["t"])
         if "silent" in line and contact:
+            contact.tries = line["tries"]
             contact.is_silent = contact.is_spent
         if line.get("back") and contact:
             contact.came_back(line["t"])
@@ -288,7 +289,7 @@ class Campaign:
     def give_up(self, contact):
         """A device that did not answer is left alone, until it is heard."""
         contact.is_silent = True
-        self.folder.journal.write(t=self.carrier.now(), device=contact.device.eui, silent=contact.stage)
+        self.folder.journal.write(t=self.carrier.now(), device=contact.device.eui, silent=contact.stage, tries=contact.tries)
 
     def heard(self, uplink):
         """Takes an uplink of a device of the plan, on a port of the packages."""

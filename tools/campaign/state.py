@@ -10,7 +10,7 @@ STAGES = ("version", "group", "fragments", "window", "status", "image", "reboot"
 
 
 class Journal:
-    """Lines of JSON, of which each is on the disk before `write` returns."""
+    """Lines of JSON, of which each is on the disk before `write` returns; `lines` are those that were there before."""
 
     def __init__(self, path):
         self.handle = os.open(path, os.O_RDWR | os.O_CREAT | os.O_APPEND, 0o600)
@@ -38,7 +38,6 @@ class Journal:
             os.ftruncate(self.handle, self.size)
             raise
         self.size += len(line)
-        self.lines.append(members)
 
 
 def lines_of(text):
