@@ -101,6 +101,10 @@ class Lines:
         return taken
 
 
+# What a message of no sense raises when it is read.
+STRANGE = (ValueError, LookupError, TypeError, AttributeError, RecursionError)
+
+
 def passed_over(line, why):
     print(f"run_campaign: passed over: {line[:200]!r}: {why}", file=sys.stderr)
 
@@ -161,7 +165,7 @@ class Pipe(Carrier):
                     return
             yield uplink_of(members["device"], members["port"], bytes.fromhex(members["payload"]),
                             members.get("time", self.now()))
-        except (ValueError, KeyError, TypeError) as why:
+        except STRANGE as why:
             passed_over(line, why)
 
     def write(self, members):
@@ -223,7 +227,7 @@ class Mqtt(Carrier):
     def read(self, line):
         try:
             yield from self.uplinks(json.loads(json.loads(line)["payload"]))
-        except (ValueError, KeyError, TypeError) as why:
+        except STRANGE as why:
             passed_over(line, why)
 
     def uplinks(self, members):
@@ -265,7 +269,7 @@ def time_of(text, now):
     """ms of Unix time of a text, where it is one of the last day; else now."""
     try:
         t = round(datetime.datetime.fromisoformat(text).timestamp() * 1000)
-    except (TypeError, ValueError):
+    except (TypeError, ValueError, OverflowError):
         return now
     return t if now - 86_400_000 <= t <= now else now
 

@@ -7,6 +7,8 @@ from .plan import Wrong, gps
 from .theory import FRAGMENT_HEAD
 
 SETUP = ("version", "group", "fragments", "window")
+# So many answers that pieces are missing still, once no fragment goes out any more, are believed.
+BELIEVED = 3
 # The ms until a network server that did not take a payload is tried again: the first time, and at most.
 FIRST_HOLD, LONGEST_HOLD = 1_000, 60_000
 
@@ -19,6 +21,7 @@ class Contact:
         self.number, self.device, self.retry = number, device, retry
         self.stage, self.tries, self.due, self.is_silent = "version", 0, 0, False
         self.waiting, self.is_held, self.was_heard = 0, False, False
+        self.missing, self.short = None, 0
 
     def is_sent(self):
         self.waiting += not self.device.is_class_c
@@ -48,9 +51,21 @@ class Contact:
         """It was silent, and is heard: it is asked anew."""
         self.tries, self.due, self.is_silent = 0, t, False
 
+    def is_told(self, missing, is_over):
+        """It answered that so many pieces are missing."""
+        self.missing = missing
+        self.short += is_over and missing > 0
+
     @property
     def is_spent(self):
-        return self.tries >= self.retry.tries
+        return self.tries >= self.retry.tries or self.stage == "status" and self.short >= BELIEVED
+
+    @property
+    def word(self):
+        """Its stage, or why it is left alone."""
+        if not self.is_silent:
+            return self.stage
+        return "incomplete" if self.stage == "status" and self.missing else "silent"
 
 
 class Pace:
@@ -131,6 +146,8 @@ class Campaign:
             contact.moved(line["t"], line["stage"])
         if line.get("sent") == "request" and contact:
             contact.was_asked(line["t"])
+        if "missing" in line and contact:
+            contact.is_told(line["missing"], line["over"])
         if "silent" in line and contact:
             contact.tries = line["tries"]
             contact.is_silent = contact.is_spent
@@ -311,6 +328,10 @@ class Campaign:
         if contact.is_silent and contact.stage in SETUP and self.plan.group and not self.is_over(now):
             contact.came_back(now)
             told["back"] = True
+        missing = state.missing_in(uplink.port, uplink.payload, self.plan.index)
+        if missing is not None:
+            told["missing"], told["over"] = missing, self.is_over(now)
+            contact.is_told(missing, told["over"])
         self.folder.journal.write(t=now, **told, stage=contact.stage)
         if answer:
             self.send(answer, contact, sent="answer")
@@ -318,9 +339,9 @@ class Campaign:
     # ---- How it stands
 
     def counts(self):
-        """How many devices stand where, in order; those that are silent by themselves."""
-        names = ["silent" if contact.is_silent else contact.stage for contact in self.contacts]
-        return {name: names.count(name) for name in (*state.STAGES, "refused", "silent") if name in names}
+        """How many devices stand where, in order."""
+        names = [contact.word for contact in self.contacts]
+        return {name: names.count(name) for name in (*state.STAGES, "refused", "incomplete", "silent") if name in names}
 
     def left(self):
         """About how many ms the fragments take still."""

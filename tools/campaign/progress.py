@@ -45,21 +45,6 @@ class Progress:
 # ---- What was kept
 
 
-# Bytes behind the identifier of each answer of TS004 of a length of its own.
-ANSWERS = {0: 2, 1: 4, 2: 1, 3: 1}
-
-
-def missing_in(port, payload, index):
-    """The missing pieces that the last FragSessionStatusAns of an uplink tells for this index; None without one."""
-    found, at = None, 0
-    while port == 201 and at < len(payload) and payload[at] in ANSWERS:
-        body = payload[at + 1:at + 1 + ANSWERS[payload[at]]]
-        if payload[at] == 1 and len(body) == 4 and body[1] >> 6 == index:
-            found = body[2]
-        at += 1 + ANSWERS[payload[at]]
-    return found
-
-
 class Kept:
     """What the folder of a campaign tells, without its plan."""
 
@@ -82,7 +67,7 @@ class Kept:
             eui = line.get("device")
             if "heard" in line:
                 heard[eui] = line["t"]
-                told = missing_in(line["port"], bytes.fromhex(line["heard"]), self.index)
+                told = state.missing_in(line["port"], bytes.fromhex(line["heard"]), self.index)
                 missing[eui] = missing.get(eui) if told is None else told
             silent[eui] = line.get("silent") if "silent" in line or line.get("sent") == "request" else silent.get(eui)
         for eui, stage in zip(self.devices, state.stages_of(self.saved)):
@@ -94,7 +79,8 @@ class Kept:
                f"last change {moment_of(self.lines[-1]['t'])}")
         yield f"{'device':<16}  {'stage':<17}  missing  last heard"
         for eui, stage, missing, heard, is_silent in self.rows():
-            stage += ", silent" if is_silent else ""
+            if is_silent:
+                stage += ", incomplete" if stage == "status" and missing else ", silent"
             yield (f"{eui:<16}  {stage:<17}  {'-' if missing is None else missing:>7}  "
                    f"{'-' if heard is None else moment_of(heard)}")
 

@@ -109,3 +109,18 @@ def stages_of(saved):
     """The stage of each device, as a name; `refused` where it refused."""
     numbers = saved[12:12 + 2 * saved[11]:2]
     return [STAGES[number] if number < len(STAGES) else "refused" for number in numbers]
+
+
+# Bytes behind the identifier of each answer of TS004 of a length of its own.
+ANSWERS = {0: 2, 1: 4, 2: 1, 3: 1}
+
+
+def missing_in(port, payload, index):
+    """The missing pieces that the last FragSessionStatusAns of an uplink tells for this index; None without one."""
+    found, at = None, 0
+    while port == 201 and at < len(payload) and payload[at] in ANSWERS:
+        body = payload[at + 1:at + 1 + ANSWERS[payload[at]]]
+        if payload[at] == 1 and len(body) == 4 and body[1] >> 6 == index:
+            found = body[2]
+        at += 1 + ANSWERS[payload[at]]
+    return found
