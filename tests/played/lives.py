@@ -11,7 +11,6 @@ import subprocess
 import sys
 import tempfile
 
-import fuota
 from campaign import carriers, state, words
 from campaign.fleet import Fleet
 from campaign.plan import read_plan

@@ -1,10 +1,13 @@
 """Plans that are wrong, plans that do not fit, and what a plan comes to."""
 import os
 import pathlib
+import re
 import subprocess
 import sys
 
 from campaign.plan import Wrong, read_plan
+
+from common import TOP
 
 from .lives import BY_UNICAST, DEVICES, EUIS, PLAN, TOOL, Process, laid_out
 
@@ -118,10 +121,25 @@ def try_plans(tries, place):
                                              "longer window"), (status, said.splitlines()[-1]))
     coded = [read_plan(place_of(folder, PLAN.replace("coded = 20", more))).coded
              for more in ("loss = 20\nshare = 50", "loss = 20\nshare = 99", "loss = 0\nshare = 99")]
+    try_sample(tries, folder)
     tries.wants("coded fragments of a loss", True, coded[0] < coded[1] and coded[2] == 0)
     for text, wanted in ((BY_UNICAST, None), (PLAN.replace('class = "C"', 'class = "B"\nperiodicity = 3'), 128)):
         plan = read_plan(place_of(folder, text))
         tries.wants("the window's length", wanted, plan.window and plan.window.length // 1_024_000)
+
+
+def try_sample(tries, folder):
+    """The plan that explains the fields, as it stands and for both network servers."""
+    text = (TOP / "tools" / "campaign" / "plan.toml").read_text()
+    before, servers, behind = re.split(r"(?<=\n)(?=# \[server\])|(?<=\n)(?=\n\[\[devices\]\])", text, maxsplit=2)
+    chirpstack, things = servers.split("#\n")
+    chirpstack, things = (re.sub("^# ", "", part, flags=re.M) for part in (chirpstack, "# [server]\n" + things))
+    with_ids = behind.replace('class = "', 'id = "meter"\nclass = "')
+    for name, members, devices in (("as it stands", "", behind), ("ChirpStack", chirpstack, behind), ("The Things Stack", things, with_ids)):
+        (folder / "plan.toml").write_text(before + members + devices)
+        plan = read_plan(folder / "plan.toml")
+        tries.wants(f"the plan that explains, {name}", (4, 16, bool(members)),
+                    (len(plan.devices), len(plan.group.key), plan.server is not None))
 
 
 def place_of(folder, text):

@@ -10,6 +10,7 @@ import base64
 import ctypes
 import datetime
 import json
+import math
 import os
 import select
 import signal
@@ -50,9 +51,10 @@ class Uplink:
 
 
 class Carrier:
-    """A way to the devices. `now` is the one place that tells the time."""
+    """A way to the devices. `now` is the one place that tells the time. In true time a wait is no longer than `tick` ms, so
+    that what is shown stays true."""
 
-    name = None
+    name, tick = None, 1_000
 
     def now(self):
         """ms of Unix time."""
@@ -136,6 +138,7 @@ class Pipe(Carrier):
     def __init__(self, simulated):
         self.lines, self.t = Lines(0), 0 if simulated else None
         if simulated:
+            self.tick = math.inf
             self.wait(1)
 
     def now(self):

@@ -1,6 +1,7 @@
 """Simulated devices, of the library's own, behind a network server that loses some of what is sent: for rehearsals."""
 import contextlib
 import heapq
+import math
 import random
 
 import fuota
@@ -126,7 +127,7 @@ class Fleet:
 class Rehearsal(Carrier):
     """A fleet in the place of a network server, in a time that is the events'. It begins some requests before the window."""
 
-    name = "rehearsal"
+    name, tick = "rehearsal", math.inf
 
     def __init__(self, plan, library, loss, seed):
         if plan.window and plan.window.kind == "B":

@@ -227,7 +227,7 @@ class Campaign:
         if action is None:
             return False
         moment, act = action
-        uplinks = self.carrier.wait(moment)
+        uplinks = self.carrier.wait(min(moment, self.carrier.now() + self.carrier.tick))
         for uplink in uplinks:
             self.heard(uplink)
         if not uplinks and self.carrier.now() >= moment:

@@ -32,14 +32,20 @@ class Progress:
         now = campaign.carrier.now()
         if self.is_terminal:
             line = line_of(campaign, is_last)
-            if line != self.shown or is_last:
-                self.stream.write(f"\r{line}\x1b[K" + ("\n" if is_last else ""))
+            if line != self.shown:
+                self.stream.write(f"\r{line}\x1b[K")
                 self.stream.flush()
             self.shown = line
         elif is_last or self.last is None or now - self.last >= A_MINUTE:
             self.stream.write(f"{moment_of(now)}: {line_of(campaign, is_last)}\n")
             self.stream.flush()
             self.last = now
+
+    def close(self):
+        """Ends the line of a terminal."""
+        if self.shown is not None:
+            self.stream.write("\n")
+            self.stream.flush()
 
 
 # ---- What was kept

@@ -44,7 +44,7 @@ def share(word):
 def run_words(words):
     parser = Words(prog="tools/run_campaign", description=sys.modules["__main__"].__doc__, epilog=EPILOG, allow_abbrev=False,
                    formatter_class=argparse.RawDescriptionHelpFormatter)
-    parser.add_argument("plan", metavar="PLAN", help="the plan, a file in TOML (docs/OPERATING.md)")
+    parser.add_argument("plan", metavar="PLAN", help="the plan, a file in TOML")
     parser.add_argument("folder", metavar="FOLDER", nargs="?", help="where the campaign is kept; made where it is not there")
     way = parser.add_mutually_exclusive_group()
     way.add_argument("--check", action="store_true", help="says what would be sent and when, and sends nothing")
@@ -115,7 +115,10 @@ def run(asked, plan):
         carrier = carrier_of(asked, plan, library)
         try:
             shown = progress.Progress(sys.stderr if asked.pipe else sys.stdout)
-            return play(Campaign(plan, folder, carrier, library), shown)
+            try:
+                return play(Campaign(plan, folder, carrier, library), shown)
+            finally:
+                shown.close()
         finally:
             carrier.close()
     finally:
