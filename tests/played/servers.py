@@ -60,9 +60,9 @@ def free_port():
 class Broker:
     """mosquitto on loopback."""
 
-    def __init__(self, program, folder):
-        self.program, self.port, self.file = program, free_port(), folder / "mosquitto.conf"
-        self.file.write_text(f"listener {self.port} 127.0.0.1\nallow_anonymous true\n")
+    def __init__(self, program, folder, is_open=True):
+        self.program, self.port, self.file = program, free_port(), folder / f"mosquitto{is_open}.conf"
+        self.file.write_text(f"listener {self.port} 127.0.0.1\nallow_anonymous {'true' if is_open else 'false'}\n")
         self.begin()
 
     def begin(self):
@@ -249,8 +249,28 @@ def try_servers(tries, place, library):
             tries.count("The Things Stack", things.fault())
             journal = (place / "things" / "state" / "journal").read_text()
             tries.wants("a broker that went away costs one payload", 1, journal.count('"lost":"mosquitto_pub: '))
+        try_access(tries, place, library, program)
     finally:
         broker.end()
+
+
+def try_access(tries, place, library, program):
+    """A broker that refuses access ends the tool, and a broker that is not there does not."""
+    broker = Broker(program, place, is_open=False)
+    folder = laid_out(place / "refused", PLAN + f'[server]\nkind = "things-stack"\nhost = "127.0.0.1"\nport = {broker.port}\n'
+                      'application = "fleet"\ntenant = "town"\nmulticast_device = "all"\ngateways = ["roof"]\n')
+    command = [sys.executable, TOOL, "plan.toml", "state", "--library", library]
+    try:
+        done = subprocess.run(command, cwd=folder, capture_output=True, text=True, timeout=30)
+    finally:
+        broker.end()
+    tries.wants("no access", (1, True), (done.returncode, "the broker refuses access" in done.stderr))
+    tool = subprocess.Popen(command, cwd=folder, stdout=subprocess.DEVNULL, stderr=subprocess.PIPE, text=True)
+    time.sleep(2.5)
+    tries.wants("no broker", None, tool.poll())
+    tool.terminate()
+    said = tool.communicate(timeout=30)[1]
+    tries.wants("no broker: stopped", (1, "run_campaign: stopped; it goes on when it is begun again\n"), (tool.returncode, said))
 
 
 def try_rest(tries):

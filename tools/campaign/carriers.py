@@ -224,7 +224,9 @@ class Mqtt(Carrier):
         found = [uplink for line in self.lines.take() for uplink in self.read(line)]
         if self.lines.is_over:
             # (it could not connect; a connection that was lost it makes again by itself)
+            status = self.source.wait()
             self.close()
+            hold_access("mosquitto_sub", status)
         return found
 
     def read(self, line):
@@ -248,6 +250,7 @@ class Mqtt(Carrier):
             raise Lost(f"the broker did not answer in {TIMEOUT} s") from None
         except FileNotFoundError:
             raise Wrong("mosquitto_pub is not installed") from None
+        hold_access("mosquitto_pub", done.returncode)
         if done.returncode:
             raise Lost(f"mosquitto_pub: {done.stderr.decode(errors='replace').strip()[:200]}")
 
@@ -257,6 +260,12 @@ class Mqtt(Carrier):
             self.source.wait()
             self.source.stdout.close()
             self.source = None
+
+
+def hold_access(program, status):
+    """Ends where the broker refuses user or password: that is its status then."""
+    if status in (4, 5):
+        raise Refusing(f"{program}: the broker refuses access; {program} reads user and password from ~/.config/{program}")
 
 
 def reaches(host, port):
