@@ -40,8 +40,7 @@ size_t fuota_device_file(fuota_device *, uint8_t, size_t, uint8_t *, size_t);
 uint8_t fuota_device_running(fuota_device *, uint32_t *);
 size_t fuota_device_save(fuota_device *, uint8_t *, size_t);
 size_t fuota_device_firmware(fuota_device *, bool, size_t, uint8_t *, size_t);
-uint8_t fuota_device_restore(fuota_device *, const fuota_config *, const uint8_t *, size_t, const uint8_t *, size_t,
-                             const uint8_t *, size_t);
+uint8_t fuota_device_restore(fuota_device *, const fuota_config *, const uint8_t *, size_t, const uint8_t *, size_t, const uint8_t *, size_t);
 uint8_t fuota_server_new(fuota_server *, const fuota_plan *, const uint8_t *, size_t, const uint8_t *, size_t, uint8_t *);
 void fuota_server_free(fuota_server *);
 uint8_t fuota_server_next_fragment(fuota_server *, fuota_down *);
@@ -50,8 +49,7 @@ uint8_t fuota_server_ask(fuota_server *, uint8_t, fuota_down *);
 uint8_t fuota_server_uplink(fuota_server *, uint8_t, uint8_t, const uint8_t *, size_t, uint64_t, fuota_down *);
 uint8_t fuota_server_ledger(fuota_server *, uint8_t, fuota_stage *);
 size_t fuota_server_save(fuota_server *, uint8_t *, size_t);
-uint8_t fuota_server_restore(fuota_server *, const fuota_plan *, const uint8_t *, size_t, const uint8_t *, size_t,
-                             const uint8_t *, size_t, uint8_t *);
+uint8_t fuota_server_restore(fuota_server *, const fuota_plan *, const uint8_t *, size_t, const uint8_t *, size_t, const uint8_t *, size_t, uint8_t *);
 uint8_t fuota_decode(uint8_t, bool, const uint8_t *, size_t, uint8_t *, size_t, fuota_decoded *);
 """
 
@@ -316,9 +314,9 @@ class Library:
     def __init__(self, path=None):
         shared = ctypes.CDLL(os.fspath(path or os.environ.get("FUOTA_LIBRARY") or "libfuota.so"))
         self.functions = {}
-        for result, name, kinds in re.findall(r"(\w+) fuota_(\w+)\(([^)]*)\);", CALLS):
+        for result, name, kinds in re.findall(r"(\w+) fuota_(\w+)\((.*)\);", CALLS):
             function = getattr(shared, "fuota_" + name)
-            function.restype, function.argtypes = type_of(result), [type_of(kind) for kind in kinds.split(",")]
+            function.restype, function.argtypes = type_of(result), [type_of(kind) for kind in kinds.split(", ")]
             self.functions[name] = function
 
     def call(self, name, *words):

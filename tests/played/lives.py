@@ -93,7 +93,7 @@ class Played:
 
     def life(self, process):
         """Plays with a process until it ends."""
-        with contextlib.suppress(FileNotFoundError, IndexError):
+        with contextlib.suppress(FileNotFoundError):
             stages = state.stages_of((self.folder / "state" / "state").read_bytes())
             self.updated = {eui for eui, stage in zip(EUIS, stages) if stage == "updated"}
         try:

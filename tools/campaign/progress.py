@@ -63,7 +63,7 @@ class Kept:
             raise Wrong(f"{why.filename}: {why.strerror}") from None
         first = self.lines[0] if self.lines else {}
         self.devices, self.index, self.fragments = (first.get(name) for name in ("devices", "index", "fragments"))
-        if not self.devices or len(self.saved) != 44 + 2 * len(self.devices):
+        if not self.devices or len(state.stages_of(self.saved)) != len(self.devices):
             raise Wrong(f"{path}: no campaign is kept there")
 
     def rows(self):

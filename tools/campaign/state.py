@@ -107,7 +107,7 @@ def next_count(saved):
 
 def stages_of(saved):
     """The stage of each device, as a name; `refused` where it refused."""
-    numbers = saved[12:12 + 2 * saved[11]:2]
+    numbers = saved[12:12 + 2 * int.from_bytes(saved[11:12], "little"):2]
     return [STAGES[number] if number < len(STAGES) else "refused" for number in numbers]
 
 
