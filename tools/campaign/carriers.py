@@ -10,6 +10,7 @@ import base64
 import ctypes
 import datetime
 import json
+import math
 import os
 import select
 import signal
@@ -50,9 +51,10 @@ class Uplink:
 
 
 class Carrier:
-    """A way to the devices. `now` is the one place that tells the time."""
+    """A way to the devices. `now` is the one place that tells the time. In true time a wait is no longer than `tick` ms, so
+    that what is shown stays true."""
 
-    name = None
+    name, tick = None, 1_000
 
     def now(self):
         """ms of Unix time."""
@@ -101,6 +103,10 @@ class Lines:
         return taken
 
 
+# What a message of no sense raises when it is read.
+STRANGE = (ValueError, LookupError, TypeError, AttributeError, RecursionError)
+
+
 def passed_over(line, why):
     print(f"run_campaign: passed over: {line[:200]!r}: {why}", file=sys.stderr)
 
@@ -132,6 +138,7 @@ class Pipe(Carrier):
     def __init__(self, simulated):
         self.lines, self.t = Lines(0), 0 if simulated else None
         if simulated:
+            self.tick = math.inf
             self.wait(1)
 
     def now(self):
@@ -161,7 +168,7 @@ class Pipe(Carrier):
                     return
             yield uplink_of(members["device"], members["port"], bytes.fromhex(members["payload"]),
                             members.get("time", self.now()))
-        except (ValueError, KeyError, TypeError) as why:
+        except STRANGE as why:
             passed_over(line, why)
 
     def write(self, members):
@@ -217,13 +224,15 @@ class Mqtt(Carrier):
         found = [uplink for line in self.lines.take() for uplink in self.read(line)]
         if self.lines.is_over:
             # (it could not connect; a connection that was lost it makes again by itself)
+            status = self.source.wait()
             self.close()
+            hold_access("mosquitto_sub", status)
         return found
 
     def read(self, line):
         try:
             yield from self.uplinks(json.loads(json.loads(line)["payload"]))
-        except (ValueError, KeyError, TypeError) as why:
+        except STRANGE as why:
             passed_over(line, why)
 
     def uplinks(self, members):
@@ -241,6 +250,7 @@ class Mqtt(Carrier):
             raise Lost(f"the broker did not answer in {TIMEOUT} s") from None
         except FileNotFoundError:
             raise Wrong("mosquitto_pub is not installed") from None
+        hold_access("mosquitto_pub", done.returncode)
         if done.returncode:
             raise Lost(f"mosquitto_pub: {done.stderr.decode(errors='replace').strip()[:200]}")
 
@@ -250,6 +260,12 @@ class Mqtt(Carrier):
             self.source.wait()
             self.source.stdout.close()
             self.source = None
+
+
+def hold_access(program, status):
+    """Ends where the broker refuses user or password: that is its status then."""
+    if status in (4, 5):
+        raise Refusing(f"{program}: the broker refuses access; {program} reads user and password from ~/.config/{program}")
 
 
 def reaches(host, port):
@@ -265,7 +281,7 @@ def time_of(text, now):
     """ms of Unix time of a text, where it is one of the last day; else now."""
     try:
         t = round(datetime.datetime.fromisoformat(text).timestamp() * 1000)
-    except (TypeError, ValueError):
+    except (TypeError, ValueError, OverflowError):
         return now
     return t if now - 86_400_000 <= t <= now else now
 

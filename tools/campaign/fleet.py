@@ -1,18 +1,21 @@
 """Simulated devices, of the library's own, behind a network server that loses some of what is sent: for rehearsals."""
 import contextlib
 import heapq
+import math
 import random
 
 import fuota
 
 from .carriers import Carrier, Uplink
-from .plan import gps
+from .plan import Wrong, gps
 
 # After an uplink a device of class A hears for the first time, and fetches so many ms later what waits still (FPending).
 FIRST_WINDOW, FETCH = 1_000, 3_000
 ROWS = 256
-# Each such uplink asks for the time; a device of class C sends no others by itself.
+# Each such uplink asks for the time, and each one before the time is known; a device of class C sends no others by itself.
 RARELY = 10
+# Seconds that a clock is ahead at first.
+AHEAD = 77_777
 # What a meter says beside.
 REPORT = (1, b"\0")
 
@@ -23,9 +26,10 @@ class Simulated:
 
     def __init__(self, device, plan, library):
         self.eui, self.is_class_c, self.queue, self.wakes = device.eui, device.is_class_c, [], 0
+        self.knows_time = False
         self.device = fuota.Device(fuota.Config(
             hw=plan.image.lowest, area=plan.pieces * plan.size, rows=ROWS, formats=2, sessions=plan.index + 1, groups=4,
-            offset=77, is_class_c=True, key=device.key), library)
+            offset=AHEAD, is_class_c=True, key=device.key), library)
 
 
 class Fleet:
@@ -61,7 +65,7 @@ class Fleet:
 
     def wake(self, t, eui, every):
         device = self.devices[eui]
-        if device.wakes % RARELY == 0:
+        if device.wakes % RARELY == 0 or not device.knows_time:
             with contextlib.suppress(fuota.Full):
                 device.device.wake(gps(t))
             self.take(device)
@@ -93,6 +97,7 @@ class Fleet:
         if self.draw.random() < self.loss:
             return
         group = None if count is None else (self.group.address, count)
+        device.knows_time |= port == 202
         with contextlib.suppress(fuota.Deaf, fuota.Refused, fuota.Full):
             device.device.deliver(port, payload, gps(t), word=self.draw.getrandbits(32), group=group)
         self.take(device)
@@ -122,9 +127,11 @@ class Fleet:
 class Rehearsal(Carrier):
     """A fleet in the place of a network server, in a time that is the events'. It begins some requests before the window."""
 
-    name = "rehearsal"
+    name, tick = "rehearsal", math.inf
 
     def __init__(self, plan, library, loss, seed):
+        if plan.window and plan.window.kind == "B":
+            raise Wrong(f"{plan.file}: window.class: a rehearsal has class C alone")
         self.t = plan.window.opens - 15 * plan.retry.distance if plan.window else super().now()
         self.fleet = Fleet(plan, library, self.t, plan.retry.distance // 2, loss, seed)
 

@@ -4,8 +4,11 @@ import fuota
 from . import state
 from .carriers import Lost
 from .plan import Wrong, gps
+from .theory import FRAGMENT_HEAD
 
 SETUP = ("version", "group", "fragments", "window")
+# So many answers that pieces are missing still, once no fragment goes out any more, are believed.
+BELIEVED = 3
 # The ms until a network server that did not take a payload is tried again: the first time, and at most.
 FIRST_HOLD, LONGEST_HOLD = 1_000, 60_000
 
@@ -18,6 +21,7 @@ class Contact:
         self.number, self.device, self.retry = number, device, retry
         self.stage, self.tries, self.due, self.is_silent = "version", 0, 0, False
         self.waiting, self.is_held, self.was_heard = 0, False, False
+        self.missing, self.short = None, 0
 
     def is_sent(self):
         self.waiting += not self.device.is_class_c
@@ -47,9 +51,21 @@ class Contact:
         """It was silent, and is heard: it is asked anew."""
         self.tries, self.due, self.is_silent = 0, t, False
 
+    def is_told(self, missing, is_over):
+        """It answered that so many pieces are missing."""
+        self.missing = missing
+        self.short += is_over and missing > 0
+
     @property
     def is_spent(self):
-        return self.tries >= self.retry.tries
+        return self.tries >= self.retry.tries or self.stage == "status" and self.short >= BELIEVED
+
+    @property
+    def word(self):
+        """Its stage, or why it is left alone."""
+        if not self.is_silent:
+            return self.stage
+        return "incomplete" if self.stage == "status" and self.missing else "silent"
 
 
 class Pace:
@@ -130,7 +146,10 @@ class Campaign:
             contact.moved(line["t"], line["stage"])
         if line.get("sent") == "request" and contact:
             contact.was_asked(line["t"])
+        if "missing" in line and contact:
+            contact.is_told(line["missing"], line["over"])
         if "silent" in line and contact:
+            contact.tries = line["tries"]
             contact.is_silent = contact.is_spent
         if line.get("back") and contact:
             contact.came_back(line["t"])
@@ -208,7 +227,7 @@ class Campaign:
         if action is None:
             return False
         moment, act = action
-        uplinks = self.carrier.wait(moment)
+        uplinks = self.carrier.wait(min(moment, self.carrier.now() + self.carrier.tick))
         for uplink in uplinks:
             self.heard(uplink)
         if not uplinks and self.carrier.now() >= moment:
@@ -287,7 +306,7 @@ class Campaign:
     def give_up(self, contact):
         """A device that did not answer is left alone, until it is heard."""
         contact.is_silent = True
-        self.folder.journal.write(t=self.carrier.now(), device=contact.device.eui, silent=contact.stage)
+        self.folder.journal.write(t=self.carrier.now(), device=contact.device.eui, silent=contact.stage, tries=contact.tries)
 
     def heard(self, uplink):
         """Takes an uplink of a device of the plan, on a port of the packages."""
@@ -309,6 +328,10 @@ class Campaign:
         if contact.is_silent and contact.stage in SETUP and self.plan.group and not self.is_over(now):
             contact.came_back(now)
             told["back"] = True
+        missing = state.missing_in(uplink.port, uplink.payload, self.plan.index)
+        if missing is not None:
+            told["missing"], told["over"] = missing, self.is_over(now)
+            contact.is_told(missing, told["over"])
         self.folder.journal.write(t=now, **told, stage=contact.stage)
         if answer:
             self.send(answer, contact, sent="answer")
@@ -316,16 +339,16 @@ class Campaign:
     # ---- How it stands
 
     def counts(self):
-        """How many devices stand where, in order; those that are silent by themselves."""
-        names = ["silent" if contact.is_silent else contact.stage for contact in self.contacts]
-        return {name: names.count(name) for name in (*state.STAGES, "refused", "silent") if name in names}
+        """How many devices stand where, in order."""
+        names = [contact.word for contact in self.contacts]
+        return {name: names.count(name) for name in (*state.STAGES, "refused", "incomplete", "silent") if name in names}
 
     def left(self):
         """About how many ms the fragments take still."""
         now = self.carrier.now()
         if self.is_over(max(self.pace.at[self.plan.group is not None], now)):
             return 0
-        air = self.plan.air(3 + self.plan.size, self.plan.group is not None)
+        air = self.plan.air(FRAGMENT_HEAD + self.plan.size, self.plan.group is not None)
         begin = (self.within(now) or now) - now
         copies = 1 if self.plan.group else len(self.contacts)
         return begin + (self.plan.fragments - self.sent) * copies * self.plan.distance(air)

@@ -32,8 +32,8 @@ class Progress:
         now = campaign.carrier.now()
         if self.is_terminal:
             line = line_of(campaign, is_last)
-            if line != self.shown or is_last:
-                self.stream.write(f"\r{line}\x1b[K" + ("\n" if is_last else ""))
+            if line != self.shown:
+                self.stream.write(f"\r{line}\x1b[K")
                 self.stream.flush()
             self.shown = line
         elif is_last or self.last is None or now - self.last >= A_MINUTE:
@@ -41,23 +41,14 @@ class Progress:
             self.stream.flush()
             self.last = now
 
+    def close(self):
+        """Ends the line of a terminal."""
+        if self.shown is not None:
+            self.stream.write("\n")
+            self.stream.flush()
+
 
 # ---- What was kept
-
-
-# Bytes behind the identifier of each answer of TS004 of a length of its own.
-ANSWERS = {0: 2, 1: 4, 2: 1, 3: 1}
-
-
-def missing_in(port, payload, index):
-    """The missing pieces that the last FragSessionStatusAns of an uplink tells for this index; None without one."""
-    found, at = None, 0
-    while port == 201 and at < len(payload) and payload[at] in ANSWERS:
-        body = payload[at + 1:at + 1 + ANSWERS[payload[at]]]
-        if payload[at] == 1 and len(body) == 4 and body[1] >> 6 == index:
-            found = body[2]
-        at += 1 + ANSWERS[payload[at]]
-    return found
 
 
 class Kept:
@@ -72,7 +63,7 @@ class Kept:
             raise Wrong(f"{why.filename}: {why.strerror}") from None
         first = self.lines[0] if self.lines else {}
         self.devices, self.index, self.fragments = (first.get(name) for name in ("devices", "index", "fragments"))
-        if not self.devices or len(self.saved) != 44 + 2 * len(self.devices):
+        if not self.devices or len(state.stages_of(self.saved)) != len(self.devices):
             raise Wrong(f"{path}: no campaign is kept there")
 
     def rows(self):
@@ -82,7 +73,7 @@ class Kept:
             eui = line.get("device")
             if "heard" in line:
                 heard[eui] = line["t"]
-                told = missing_in(line["port"], bytes.fromhex(line["heard"]), self.index)
+                told = state.missing_in(line["port"], bytes.fromhex(line["heard"]), self.index)
                 missing[eui] = missing.get(eui) if told is None else told
             silent[eui] = line.get("silent") if "silent" in line or line.get("sent") == "request" else silent.get(eui)
         for eui, stage in zip(self.devices, state.stages_of(self.saved)):
@@ -94,7 +85,8 @@ class Kept:
                f"last change {moment_of(self.lines[-1]['t'])}")
         yield f"{'device':<16}  {'stage':<17}  missing  last heard"
         for eui, stage, missing, heard, is_silent in self.rows():
-            stage += ", silent" if is_silent else ""
+            if is_silent:
+                stage += ", incomplete" if stage == "status" and missing else ", silent"
             yield (f"{eui:<16}  {stage:<17}  {'-' if missing is None else missing:>7}  "
                    f"{'-' if heard is None else moment_of(heard)}")
 

@@ -10,7 +10,7 @@ STAGES = ("version", "group", "fragments", "window", "status", "image", "reboot"
 
 
 class Journal:
-    """Lines of JSON, of which each is on the disk before `write` returns."""
+    """Lines of JSON, of which each is on the disk before `write` returns; `lines` are those that were there before."""
 
     def __init__(self, path):
         self.handle = os.open(path, os.O_RDWR | os.O_CREAT | os.O_APPEND, 0o600)
@@ -38,7 +38,6 @@ class Journal:
             os.ftruncate(self.handle, self.size)
             raise
         self.size += len(line)
-        self.lines.append(members)
 
 
 def lines_of(text):
@@ -108,5 +107,20 @@ def next_count(saved):
 
 def stages_of(saved):
     """The stage of each device, as a name; `refused` where it refused."""
-    numbers = saved[12:12 + 2 * saved[11]:2]
+    numbers = saved[12:12 + 2 * int.from_bytes(saved[11:12], "little"):2]
     return [STAGES[number] if number < len(STAGES) else "refused" for number in numbers]
+
+
+# Bytes behind the identifier of each answer of TS004 of a length of its own.
+ANSWERS = {0: 2, 1: 4, 2: 1, 3: 1}
+
+
+def missing_in(port, payload, index):
+    """The missing pieces that the last FragSessionStatusAns of an uplink tells for this index; None without one."""
+    found, at = None, 0
+    while port == 201 and at < len(payload) and payload[at] in ANSWERS:
+        body = payload[at + 1:at + 1 + ANSWERS[payload[at]]]
+        if payload[at] == 1 and len(body) == 4 and body[1] >> 6 == index:
+            found = body[2]
+        at += 1 + ANSWERS[payload[at]]
+    return found

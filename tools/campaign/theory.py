@@ -79,6 +79,17 @@ def complete_shares(chain, pieces, coded, rows):
     return shares
 
 
+def most_pieces(chain, rows, share, most=4_096):
+    """How many pieces, up to `most`, rows bear: so that a share of the devices loses no more pieces than it has rows."""
+    heard, lost = [1 - chain.first] + [0.0] * rows, ([0.0, chain.first] + [0.0] * rows)[:rows + 1]
+    for pieces in range(1, most + 1):
+        if math.fsum(heard) + math.fsum(lost) < share:
+            return pieces - 1
+        heard, lost = one_more(chain, heard, lost)
+        lost = [0.0] + lost[:-1]
+    return most
+
+
 def mean_beyond(columns):
     """How many rows beyond its columns a random matrix needs, in the mean."""
     return math.fsum(1 / (2 ** i - 1) for i in range(1, columns + 1))

@@ -44,7 +44,7 @@ def share(word):
 def run_words(words):
     parser = Words(prog="tools/run_campaign", description=sys.modules["__main__"].__doc__, epilog=EPILOG, allow_abbrev=False,
                    formatter_class=argparse.RawDescriptionHelpFormatter)
-    parser.add_argument("plan", metavar="PLAN", help="the plan, a file in TOML (docs/OPERATING.md)")
+    parser.add_argument("plan", metavar="PLAN", help="the plan, a file in TOML")
     parser.add_argument("folder", metavar="FOLDER", nargs="?", help="where the campaign is kept; made where it is not there")
     way = parser.add_mutually_exclusive_group()
     way.add_argument("--check", action="store_true", help="says what would be sent and when, and sends nothing")
@@ -115,7 +115,10 @@ def run(asked, plan):
         carrier = carrier_of(asked, plan, library)
         try:
             shown = progress.Progress(sys.stderr if asked.pipe else sys.stdout)
-            return play(Campaign(plan, folder, carrier, library), shown)
+            try:
+                return play(Campaign(plan, folder, carrier, library), shown)
+            finally:
+                shown.close()
         finally:
             carrier.close()
     finally:
@@ -128,6 +131,7 @@ def stop(*_):
 
 def main(words):
     signal.signal(signal.SIGTERM, stop)
+    asked = None
     try:
         if words[:1] == ["status"]:
             return status(words[1:])
@@ -138,7 +142,8 @@ def main(words):
         print(f"run_campaign: {why}", file=sys.stderr)
         return WRONG
     except OSError as why:
-        print(f"run_campaign: {why.filename or asked.folder}: {why.strerror}; nothing more was sent", file=sys.stderr)
+        place = why.filename or getattr(asked, "folder", "standard output")
+        print(f"run_campaign: {place}: {why.strerror}; nothing more was sent", file=sys.stderr)
     except (carriers.Refusing, carriers.Ended, fuota.Error) as why:
         print(f"run_campaign: {why}", file=sys.stderr)
     except KeyboardInterrupt:
