@@ -54,7 +54,7 @@ fn play(rt: &HostRuntime, path: &str, state: &str, line: &[u8]) -> io::Result<()
     let Some(mut device) = restored(rt, config, flash, state)? else {
         return Err(wrong());
     };
-    if device.power().is_err() {
+    if !device.is_held() || device.power().is_err() {
         return Err(wrong());
     }
     println!(rt; "power")?;
