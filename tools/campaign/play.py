@@ -242,7 +242,6 @@ class Campaign:
         if self.hold and not self.carrier.is_up():
             self.pause()
             return False
-        self.hold = 0
         return True
 
     def pause(self):
@@ -268,6 +267,7 @@ class Campaign:
             else:
                 self.carrier.to_device(contact.device, down.port, down.data)
                 contact.is_sent()
+            self.hold = 0
         except Lost as why:
             self.folder.journal.write(t=now, lost=str(why))
             self.pause()
