@@ -163,6 +163,8 @@ class Played:
             self.faults.append(f"status {status}")
         if set(self.fleet.running()) != {VERSION}:
             self.faults.append(f"{self.fleet.running()} run")
+        elif any(device.device.firmware(False) != IMAGE for device in self.fleet.devices.values()):
+            self.faults.append("another image runs")
         if self.counts != sorted(set(self.counts)) or self.counts and not 100 <= self.counts[0] <= self.counts[-1] < 200:
             self.faults.append(f"counts {self.counts}")
         if self.numbers != sorted(set(self.numbers)):

@@ -147,7 +147,7 @@ class LiveChirpStack(Live):
 
     down = "application/fleet/device/+/command/down"
 
-    def __init__(self, folder, broker, library, rest, lead=9):
+    def __init__(self, folder, broker, library, rest, lead=12):
         self.rest, self.taken = rest, 0
         server = (f'[server]\nkind = "chirpstack"\nhost = "127.0.0.1"\nport = {broker.port}\napplication = "fleet"\n'
                   f'http = "http://127.0.0.1:{rest.server_address[1]}"\nmulticast_group = "6f1c1a52"\ntoken_file = "token"\n')
@@ -186,7 +186,7 @@ class LiveThingsStack(Live):
 
     down = "v3/fleet@town/devices/+/down/push"
 
-    def __init__(self, folder, broker, library, lead=9):
+    def __init__(self, folder, broker, library, lead=12):
         server = (f'[server]\nkind = "things-stack"\nhost = "127.0.0.1"\nport = {broker.port}\napplication = "fleet"\n'
                   'tenant = "town"\nmulticast_device = "all-meters"\ngateways = ["roof", "tower"]\n')
         super().__init__(folder, broker, library, server, lead)

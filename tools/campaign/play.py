@@ -1,4 +1,6 @@
 """A campaign, step by step: what goes out when. What is sent, and what an answer means, is the library's server's."""
+import math
+
 import fuota
 
 from . import state
@@ -222,15 +224,14 @@ class Campaign:
                 yield max(free, contact.due), lambda contact=contact: self.ask(contact)
 
     def step(self):
-        """Waits for uplinks or the next action, and does it; whether there was one."""
+        """Waits for uplinks or the next action, and does what is due then; whether there was an action."""
         action = self.next_action()
         if action is None:
             return False
-        moment, act = action
-        uplinks = self.carrier.wait(min(moment, self.carrier.now() + self.carrier.tick))
-        for uplink in uplinks:
+        for uplink in self.carrier.wait(min(action[0], self.carrier.now() + self.carrier.tick)):
             self.heard(uplink)
-        if not uplinks and self.carrier.now() >= moment:
+        moment, act = self.next_action() or (math.inf, None)
+        if self.carrier.now() >= moment:
             act()
         return True
 
@@ -241,7 +242,6 @@ class Campaign:
         if self.hold and not self.carrier.is_up():
             self.pause()
             return False
-        self.hold = 0
         return True
 
     def pause(self):
@@ -267,6 +267,7 @@ class Campaign:
             else:
                 self.carrier.to_device(contact.device, down.port, down.data)
                 contact.is_sent()
+            self.hold = 0
         except Lost as why:
             self.folder.journal.write(t=now, lost=str(why))
             self.pause()
