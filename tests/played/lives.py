@@ -49,9 +49,9 @@ BY_UNICAST = re.sub(r"\[group\].*(?=\[pace\])", "", PLAN, flags=re.S)
 
 
 def devices_of(classes):
-    """The devices of a plan, one for each of these classes."""
-    return "".join(f'[[devices]]\neui = "{eui}"\ngen_app_key = "{eui}{eui}"\nclass = "{kind}"\nid = "meter-{eui[-1]}"\n'
-                   for eui, kind in zip(EUIS, classes))
+    """The devices of a plan, one for each of these classes; the second one is of LoRaWAN 1.1."""
+    return "".join(f'[[devices]]\neui = "{eui}"\n{"app_key" if eui == EUIS[1] else "gen_app_key"} = "{eui}{eui}"\n'
+                   f'class = "{kind}"\nid = "meter-{eui[-1]}"\n' for eui, kind in zip(EUIS, classes))
 
 
 DEVICES = devices_of("ACA")

@@ -65,7 +65,7 @@ FIELDS = [
     (f'eui = "{EUIS[1]}"', f'eui = "{EUIS[0]}"', f"devices[2].eui: {EUIS[0]} stands twice"),
     (f'eui = "{EUIS[1]}"', 'eui = "01"', "devices[2].eui: 2 hex digits, 16 are needed"),
     (f'gen_app_key = "{EUIS[2]}', 'gen_app_key = "', "devices[3].gen_app_key: 16 hex digits, 32 are needed"),
-    ("gen_app_key", "app_key", "devices[1].app_key: the library takes the GenAppKeys of LoRaWAN 1.0 alone: gen_app_key"),
+    ("gen_app_key", "app_key = \"00\"\ngen_app_key", "devices[1].app_key: stands beside gen_app_key: a device has one of them"),
     ('class = "A"', 'class = "B"', "devices[1].class: 'B' is none of A, C"),
     ('class = "A"', "", "devices[1].class: is missing"),
     ('id = "meter-8"', 'id = "meter/8"', "devices[1].id: 'meter/8' is no name: letters, digits and . : @ - _"),

@@ -29,7 +29,7 @@ class Simulated:
         self.knows_time = False
         self.device = fuota.Device(fuota.Config(
             hw=plan.image.lowest, area=plan.pieces * plan.size, rows=ROWS, formats=2, sessions=plan.index + 1, groups=4,
-            offset=AHEAD, is_class_c=True, key=device.key), library)
+            offset=AHEAD, is_class_c=True, is_v11=device.is_v11, key=device.key), library)
 
 
 class Fleet:

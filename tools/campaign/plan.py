@@ -104,10 +104,12 @@ class Retry:
 
 @dataclass(frozen=True)
 class Device:
-    """A device. What goes to one of class A waits in its network server's queue for an uplink."""
+    """A device. What goes to one of class A waits in its network server's queue for an uplink. Its key is a GenAppKey of
+    LoRaWAN 1.0, or an AppKey of LoRaWAN 1.1."""
 
     eui: str
     key: bytes
+    is_v11: bool
     is_class_c: bool
     id: str
 
@@ -171,7 +173,7 @@ class Plan:
 
     @property
     def keys(self):
-        return [device.key for device in self.devices]
+        return [fuota.PlanDevice(key=device.key, is_v11=device.is_v11) for device in self.devices]
 
 
 # ---- How it is read
@@ -351,10 +353,11 @@ def window_of(table):
 
 def device_of(table):
     eui = table.take("eui", digits(16))
-    if "app_key" in table.members:
-        raise table.wrong("app_key", "the library takes the GenAppKeys of LoRaWAN 1.0 alone: gen_app_key")
-    device = Device(eui, bytes.fromhex(table.take("gen_app_key", digits(32))), table.take("class", choice("A", "C")) == "C",
-                    table.take("id", word, None))
+    is_v11 = "app_key" in table.members
+    if is_v11 and "gen_app_key" in table.members:
+        raise table.wrong("app_key", "stands beside gen_app_key: a device has one of them")
+    key = bytes.fromhex(table.take("app_key" if is_v11 else "gen_app_key", digits(32)))
+    device = Device(eui, key, is_v11, table.take("class", choice("A", "C")) == "C", table.take("id", word, None))
     table.end()
     return device
 
