@@ -1,5 +1,5 @@
 -- What the calls of a receiver do for C.
-use Rattle.std.specs.Prelude.{◌≡◌, ◌⊎◌, ◌≤◌, ◌<◌, ℕ, ◌*◌, ◌/◌, Bool, Option, Some, None, List, [], length}
+use Rattle.std.specs.Prelude.{◌≡◌, ◌⊎◌, ◌≤◌, ◌<◌, ℕ, ◌*◌, ◌/◌, Bool, Option, Some, None, IfSome, List, [], length}
 use Rattle.wire_base.specs.Payload.{max_payload}
 use Rattle.wire_base.specs.declared.refusal.Direction.TheVariants.{Down}
 use Rattle.cast_wire.specs.declared.cmd.Cmd.TheVariants.{DataFragment, FragSessionStatusAns}
@@ -10,6 +10,7 @@ use Rattle.frag_session.specs.declared.answers.Via.TheVariants.{Unicast}
 use Rattle.frag_session.specs.declared.answers.StatusAns.{StatusAns}
 use Rattle.frag_session.specs.declared.setups.SetupReq.{SetupReq}
 use Rattle.frag_session.specs.Held.{HeldSlot}
+use Rattle.frag_session.specs.Limits.{max_received}
 use Rattle.frag_session.specs.declared.setups.Limits.{Limits}
 use Rattle.frag_session.specs.HeldSteps.{extent_of}
 use Rattle.frag_session.specs.HeldHistory.{Stands}
@@ -109,6 +110,11 @@ setup_of fields = record {
   padding = fields.padding;
   descriptor = fields.descriptor;
 }
+
+-- what the session answers to a status request by unicast; the fragments heard are within their bits
+pub record Answers (x : Receiver) (all : Bool) (answer : Option StatusAns) : Type 0 where
+  pub is : (s : Option Session) → ReceiverStands (size_of x) x s → answer ≡ status_of s Unicast all
+  pub few : IfSome answer (λ a. a.received ≤ max_received)
 
 -- a payload that is too long for a radio changes nothing, and any other is heard
 pub record HearsOrNot (old new : Receiver) (payload : List ℕ) (mark : ℕ) (answer : ℕ) : Type 0 where

@@ -1,12 +1,11 @@
 //! A receiver of one of three sizes, in memory that is taken once.
 
-ghost use Rattle.std.specs.Prelude.{◌≡◌, ◌≤◌, Option, None, length, IfOk, IfSome, option_map};
+ghost use Rattle.std.specs.Prelude.{◌≡◌, ◌≤◌, Option, None, length, IfOk, option_map};
 ghost use Rattle.wire_base.specs.Payload.{max_payload};
-ghost use Rattle.frag_session.specs.Session.{Session, view_of, status_of, after_fragment};
+ghost use Rattle.frag_session.specs.Session.{Session, view_of, after_fragment};
 ghost use Rattle.frag_session.specs.HeldView.{seen};
-ghost use Rattle.frag_session.specs.Limits.{max_received};
 ghost use Rattle.frag_session.specs.declared.answers.Via.TheVariants.{Unicast};
-ghost use Rattle.fuota_c.specs.Receiver.{ReceiverStands, SetsUp, Hears, size_of};
+ghost use Rattle.fuota_c.specs.Receiver.{ReceiverStands, SetsUp, Hears, Answers, size_of};
 
 use cast_wire::fragment_at;
 use frag_session::{Idle, Limits, SetupReq, Slot, StatusAns, Via, View};
@@ -112,9 +111,7 @@ pub fn view(receiver: &Receiver) -> Option<View<'_>>
 
 /// The answer to FragSessionStatusReq that came by unicast, if one is due.
 pub fn status(receiver: &Receiver, all: bool) -> Option<StatusAns>
-    ensures answer { (s : Option Session) → ReceiverStands (size_of receiver.now) receiver.now s
-        → result ≡ status_of s Unicast all }
-    ensures few { IfSome result (λ a. a.received ≤ max_received) }
+    ensures { Answers receiver.now all result }
 {
     match receiver {
         Receiver::Small(slot) => slot.status(Via::Unicast, all),
