@@ -1,8 +1,9 @@
 /* Firmware update over the air for LoRaWAN (TS003, TS004, TS005 and TS006, 1.0.0): a receiver of one file at a time, a
  * whole device, the server of a campaign, and payloads as text. docs/SAMPLES.md says how to build and link it.
  *
- * Each call is proved: with any argument that its types allow it does what docs/promises/fuota_c.md and
- * fuota_server_c.md say, nothing undefined, and returns. Memory is taken by the calls _new and _restore alone, and given
+ * Each call is proved: with any argument that its types allow it does what crates/fuota_c/README.md and
+ * crates/fuota_server_c/README.md say, nothing undefined, and returns.
+ * Memory is taken by the calls _new and _restore alone, and given
  * back by _free, and by _new and _restore of what was there; fuota_decode takes memory for its text and gives it back.
  * What C owes is written here, and nothing checks it:
  *   - a handle begins as { 0 }, as by its ..._NONE. It is not copied, and what is in it is neither read nor written by
