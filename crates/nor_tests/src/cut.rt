@@ -1,0 +1,194 @@
+//! Three sessions with losses, stopped before and within each program and erase of the part.
+
+ghost use Rattle.std.specs.Prelude.{◌≡◌, ◌≤◌};
+ghost use Rattle.sample_receiver.specs.HeldReceiver.{extent};
+ghost use Rattle.sample_flash_receiver.specs.HeldReceiver.{span, IsReceiver};
+
+use crate::bench::{empty, encoder, is_whole, payload, request};
+use crate::part::{Tear, TestPart};
+use frag_encoder::Encoder;
+use frag_session::Via;
+use sample_flash_receiver::{Arena, Receiver, SPAN, hear, set_up, start};
+use sample_nor_flash::{NorFlash, sectors_of};
+use std::alloc::Global;
+use std::process::Abort;
+use std::test::*;
+
+/// Pieces of the three files: their records lie in two sectors.
+static PIECES: [usize; 3] = [76, 75, 77];
+
+/// Each of these fragments is lost, and the one after it comes twice.
+const LOST: u16 = 20;
+
+/// A flash, and the receiver over it.
+#[derive(Drop)]
+struct Stand {
+    flash: NorFlash<TestPart>,
+    receiver: Receiver,
+    ghost room: { span ≤ flash.size },
+    ghost is: { IsReceiver receiver },
+}
+
+/// How many fragments of the session that lives were heard; None where none lives.
+fn heard_by(receiver: &Receiver) -> Option<u16> {
+    match receiver.status(Via::Unicast, true) {
+        Some(status) => Some(status.received),
+        None => None,
+    }
+}
+
+fn flash_over(rt: &impl Abort, part: TestPart) -> NorFlash<TestPart>
+    ensures { span ≤ result.size }
+{
+    match NorFlash::over(part, SPAN, 1) {
+        Some(flash) => flash,
+        None => panic!(rt; "no range"),
+    }
+}
+
+/// The power comes back.
+fn powered(rt: &impl Abort, flash: NorFlash<TestPart>) -> NorFlash<TestPart>
+    ensures { span ≤ result.size }
+{
+    let mut part = flash.inner();
+    part.power();
+    flash_over(rt, part)
+}
+
+/// With what lies in the flash, once more where the opening is stopped.
+fn opened(rt: &impl Abort, flash: NorFlash<TestPart>, empty: Arena) -> Stand
+    requires arena { empty ≡ extent }
+    requires room { span ≤ flash.size }
+{
+    let mut flash = flash;
+    match start(&mut flash, empty) {
+        Ok(receiver) => Stand { flash, receiver },
+        Err((empty, _)) => {
+            let mut flash = powered(rt, flash);
+            match start(&mut flash, empty) {
+                Ok(receiver) => Stand { flash, receiver },
+                Err(_) => panic!(rt; "the flash is not opened"),
+            }
+        }
+    }
+}
+
+/// A fragment is heard. After a stop there is what was acknowledged, or that and the fragment.
+fn heard(rt: &impl Abort, stand: Stand, payload: &[u8; 51]) -> Stand {
+    let before = heard_by(&stand.receiver).unwrap_or(0);
+    let Stand { mut flash, receiver } = stand;
+    match hear(receiver, &mut flash, payload, 1) {
+        Ok(receiver) => {
+            assert!(rt; heard_by(&receiver) == Some(before.saturating_add(1)));
+            Stand { flash, receiver }
+        }
+        Err(empty) => {
+            let stand = opened(rt, powered(rt, flash), empty);
+            let now = heard_by(&stand.receiver);
+            assert!(rt; now == Some(before) || now == Some(before.saturating_add(1)));
+            stand
+        }
+    }
+}
+
+/// A setup. After a stop there is the session that was, none, or the new one with nothing heard.
+fn set_up_once(
+    rt: &impl Abort,
+    stand: Stand,
+    old: Option<&Encoder>,
+    encoder: &Encoder,
+    number: u32,
+) -> Stand {
+    let before = heard_by(&stand.receiver);
+    let Stand { mut flash, receiver } = stand;
+    match set_up(receiver, &mut flash, request(encoder, number)) {
+        Ok((receiver, bits)) => {
+            assert!(rt; bits == 0 && heard_by(&receiver) == Some(0));
+            Stand { flash, receiver }
+        }
+        Err(empty) => {
+            let stand = opened(rt, powered(rt, flash), empty);
+            let now = heard_by(&stand.receiver);
+            assert!(rt; now == before || now == None || now == Some(0));
+            if now != None && now != Some(0) {
+                if let Some(old) = old {
+                    assert!(rt; is_whole(&stand.receiver, old));
+                }
+            }
+            stand
+        }
+    }
+}
+
+/// A session from its setup until its file is whole. A fragment in which the part was stopped is not sent again.
+fn received(
+    rt: &impl Abort,
+    stand: Stand,
+    old: Option<&Encoder>,
+    encoder: &Encoder,
+    number: u32,
+) -> Stand {
+    let mut stand = set_up_once(rt, stand, old, encoder, number);
+    for _ in 0..2 {
+        stand = set_up_once(rt, stand, old, encoder, number);
+    }
+    assert!(rt; heard_by(&stand.receiver) == Some(0));
+    for n in 1..encoder.nb_frag() + 24 {
+        if n % LOST != 0 && !is_whole(&stand.receiver, encoder) {
+            let payload = payload(rt, encoder, n);
+            stand = heard(rt, stand, &payload);
+            if n % LOST == 1 && !is_whole(&stand.receiver, encoder) {
+                stand = heard(rt, stand, &payload);
+            }
+        }
+    }
+    assert!(rt; is_whole(&stand.receiver, encoder));
+    stand
+}
+
+/// Three sessions over a part that is stopped after so many programs and erases, and again: how many it made.
+fn run(rt: &impl Abort, alloc: Global, files: &[Encoder; 3], stops: [(u32, Tear); 2]) -> u32 {
+    let Ok(mut part) = TestPart::reserve(alloc, sectors_of(SPAN)) else {
+        panic!(rt; "no memory");
+    };
+    part.left = stops[0].0;
+    part.tear = stops[0].1;
+    part.then = stops[1].0;
+    part.then_tear = stops[1].1;
+    let mut stand = opened(rt, flash_over(rt, part), empty(rt, alloc));
+    let mut old = None;
+    for k in 0..3 {
+        stand = received(rt, stand, old, &files[k], k as u32);
+        old = Some(&files[k]);
+    }
+    let calls = stand.flash.part().calls;
+    drop(stand);
+    calls
+}
+
+fn files(rt: &impl Abort, alloc: Global) -> [Encoder; 3] {
+    [
+        encoder(rt, alloc, PIECES[0], 0),
+        encoder(rt, alloc, PIECES[1], 1),
+        encoder(rt, alloc, PIECES[2], 2),
+    ]
+}
+
+const NEVER: (u32, Tear) = (u32::MAX, Tear::Nothing);
+
+static TEARS: [Tear; 4] = [Tear::Nothing, Tear::Drawn, Tear::Open, Tear::All];
+
+#[test]
+fn a_session_outlasts_a_stop_at_any_moment(rt: HostRuntime) {
+    let files = files(&rt, rt.alloc());
+    let all = run(&rt, rt.alloc(), &files, [NEVER, NEVER]);
+    let _ = println!(rt; "{all}");
+    for first in 0..20 {
+        for k in 0..4 {
+            let again = (7 * first + 11 * k as u32) % 37;
+            let tear = TEARS[(first as usize + k) % 4];
+            run(&rt, rt.alloc(), &files, [(first, TEARS[k]), (again, tear)]);
+        }
+    }
+    drop(files);
+}

@@ -1,0 +1,36 @@
+//! Bytes turned, and compared.
+
+ghost use Rattle.std.specs.Bool.{OnTrue};
+ghost use Rattle.sample_nor_flash.specs.Cells.{Turns, Falls};
+
+/// What is read at a time, and programmed.
+pub const PAGE: usize = 256;
+
+/// Turns each bit.
+pub fn turn(bytes: &mut [u8])
+    ensures { Turns bytes.old bytes.new }
+{
+    for i in 0..bytes.len() {
+        bytes[i] = 255 - bytes[i];
+    }
+}
+
+/// Whether `new` has no bit that `old` lacks.
+pub fn falls(old: &[u8], new: &[u8]) -> bool
+    ensures { OnTrue result (Falls old.now new.now) }
+{
+    if old.len() != new.len() {
+        return false;
+    }
+    for i in 0..new.len() {
+        if old[i] & new[i] != new[i] {
+            return false;
+        }
+    }
+    true
+}
+
+/// Whether all are 0.
+pub fn are_zeros(bytes: &[u8]) -> bool {
+    bytes.iter().all(|byte| *byte == 0)
+}

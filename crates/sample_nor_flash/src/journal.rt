@@ -1,0 +1,142 @@
+//! A sector is written anew by way of a copy in the spare one. The journal has an entry of four bytes for each time: the
+//! sector's number in the range, from 1 on; a byte that is not 0 once the copy is whole and counts; one that is not 0 once
+//! the sector has it; and one that is never written.
+
+ghost use Rattle.std.specs.Prelude.{◌≡◌, ◌≢◌, ◌+◌, ◌*◌, ◌<◌, ◌≤◌, length, OnOk};
+ghost use Rattle.flash_session.specs.Contents.{byte_at};
+
+use crate::area::Area;
+use crate::bytes::{PAGE, are_zeros};
+use crate::layout::SECTOR;
+use crate::nor::Nor;
+use crate::sectors::{fetch, is_blank, lay_fresh, start_of, wipe};
+use flash_session::Failed;
+
+/// How many entries it has.
+const ENTRIES: u32 = SECTOR / 4;
+
+/// The byte of an entry that is set, and of a header's sector that was written anew: a copy is never blank.
+const SET: u8 = 0xff;
+
+/// What the journal says.
+#[derive(Clone, Copy)]
+struct Found {
+    /// The number of the next entry; `ENTRIES` where none is left.
+    next: u32,
+    /// The sector whose copy counts, of the entry before that; 0 where none does.
+    open: u8,
+}
+
+/// Reads the journal.
+fn look<N: Nor>(part: &mut N, area: Area) -> Result<Found, Failed> {
+    let mut found = Found { next: 0, open: 0 };
+    let mut page = [0; PAGE];
+    for k in 0..16 {
+        fetch(part, start_of(area.journal()) + 256 * k as u64, &mut page)?;
+        for e in 0..64 {
+            let entry = &page[4 * e..4 * e + 4];
+            if !are_zeros(entry) {
+                let counts = entry[1] != 0 && entry[2] == 0;
+                found = Found {
+                    next: 64 * k + e as u32 + 1,
+                    open: if counts { entry[0] } else { 0 },
+                };
+            }
+        }
+    }
+    Ok(found)
+}
+
+/// Where byte `k` of an entry lies.
+fn entry_at(area: Area, entry: u32, k: u8) -> u64 {
+    start_of(area.journal()) + 4 * entry as u64 + k as u64
+}
+
+/// Copies a sector to one that is erased, with the piece over it.
+fn copy<N: Nor>(
+    part: &mut N,
+    from: u32,
+    to: u32,
+    offset: u64,
+    piece: &[u8],
+) -> Result<(), Failed> {
+    let mut page = [0; PAGE];
+    for k in 0..16 {
+        fetch(part, start_of(from) + 256 * k, &mut page)?;
+        for i in 0..PAGE {
+            let place = 256 * k + i as u64;
+            if offset <= place {
+                if let Some(byte) = piece.get((place - offset) as usize) {
+                    page[i] = *byte;
+                }
+            }
+        }
+        if !are_zeros(&page) {
+            lay_fresh(part, start_of(to) + 256 * k, &page)?;
+        }
+    }
+    Ok(())
+}
+
+/// Gives a sector what its copy has, whose entry says that it counts, and closes the entry.
+fn restore<N: Nor>(part: &mut N, area: Area, k: u32, entry: u32) -> Result<(), Failed> {
+    wipe(part, area.sector(k))?;
+    copy(part, area.spare(), area.sector(k), 0, &[])?;
+    lay_fresh(part, entry_at(area, entry, 2), &[SET])
+}
+
+/// What a stop left half done is done: a sector whose copy counts gets it. A blank spare sector is no copy.
+pub fn recover<N: Nor>(part: &mut N, area: Area) -> Result<(), Failed> {
+    let found = look(part, area)?;
+    if found.open == 0 {
+        return Ok(());
+    }
+    let k = found.open as u32 - 1;
+    let entry = found.next.saturating_sub(1);
+    if k >= area.count() || is_blank(part, area.spare())? {
+        return lay_fresh(part, entry_at(area, entry, 2), &[SET]);
+    }
+    restore(part, area, k, entry)
+}
+
+/// The next entry of the journal. A full one is erased, once the spare sector is: whatever a stop leaves of it, no copy counts.
+fn next_entry<N: Nor>(part: &mut N, area: Area) -> Result<u32, Failed> {
+    let found = look(part, area)?;
+    wipe(part, area.spare())?;
+    if found.next < ENTRIES {
+        return Ok(found.next);
+    }
+    wipe(part, area.journal())?;
+    Ok(0)
+}
+
+/// Says that the copy of sector `k` counts.
+fn commit<N: Nor>(part: &mut N, area: Area, k: u32, entry: u32) -> Result<(), Failed> {
+    if k >= 255 || is_blank(part, area.spare())? {
+        return Err(Failed);
+    }
+    lay_fresh(part, entry_at(area, entry, 0), &[k as u8 + 1])?;
+    lay_fresh(part, entry_at(area, entry, 1), &[SET])
+}
+
+/// Writes a sector anew, with the piece over what it has.
+pub fn write_anew<N: Nor>(
+    part: &mut N,
+    area: Area,
+    k: u32,
+    offset: u64,
+    piece: &[u8],
+) -> Result<(), Failed> {
+    let entry = next_entry(part, area)?;
+    copy(part, area.sector(k), area.spare(), offset, piece)?;
+    commit(part, area, k, entry)?;
+    restore(part, area, k, entry)
+}
+
+/// Closes a header: its sector is erased, by way of a copy that has nothing but its first byte, which lies before the range.
+pub fn close_header<N: Nor>(part: &mut N, area: Area) -> Result<(), Failed> {
+    let entry = next_entry(part, area)?;
+    lay_fresh(part, start_of(area.spare()), &[SET])?;
+    commit(part, area, 0, entry)?;
+    restore(part, area, 0, entry)
+}

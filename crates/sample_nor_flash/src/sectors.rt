@@ -1,0 +1,96 @@
+//! Bytes of the part, turned, by their places; a place beyond it fails.
+
+ghost use Rattle.std.specs.Prelude.{◌≡◌, ℕ, ◌*◌, ◌≤◌, List, length, OnOk, IfOk, map};
+ghost use Rattle.std.specs.Bool.{OnTrue};
+ghost use Rattle.flash_session.specs.Contents.{SameOutside, Put, Follows};
+ghost use Rattle.sample_nor_flash.specs.Cells.{GivesTurned, turned};
+
+use crate::bytes::{PAGE, are_zeros, falls, turn};
+use crate::layout::SECTOR;
+use crate::nor::Nor;
+use flash_session::Failed;
+
+/// Where the bytes of a sector begin.
+pub fn start_of(sector: u32) -> u64
+    ensures { result ≡ 4096 * sector }
+{
+    sector as u64 * SECTOR as u64
+}
+
+/// Whether the part has so many bytes from a place on.
+fn has<N: Nor>(part: &N, at: u64, len: usize) -> bool {
+    at <= part.size() as u64 && len as u64 <= part.size() as u64 - at
+}
+
+/// Reads the bytes from a place on, turned.
+pub fn fetch<N: Nor>(part: &mut N, at: u64, buf: &mut [u8]) -> Result<(), Failed>
+    ensures told { OnOk result (GivesTurned (N.holds part.new) at buf.new) }
+    ensures stays { (c : List ℕ) → N.holds part.new c → N.holds part.old c }
+{
+    if !has(part, at, buf.len()) {
+        return Err(Failed);
+    }
+    part.read(at as u32, buf)?;
+    turn(buf);
+    Ok(())
+}
+
+/// Lays a piece of at most 256 bytes, turned, where no bit has to rise for it. Else false, and nothing is written.
+pub fn lay<N: Nor>(part: &mut N, at: u64, piece: &[u8]) -> Result<bool, Failed>
+    requires { length piece.now ≤ 256 }
+    ensures laid { IfOk result (λ done. OnTrue done
+        (Follows (Put at (map turned piece.now)) (N.holds part.old) (N.holds part.new))) }
+    ensures outside { Follows (SameOutside at (length piece.now)) (N.holds part.old)
+        (N.holds part.new) }
+{
+    if !has(part, at, piece.len()) {
+        return Err(Failed);
+    }
+    let mut there = [0; PAGE];
+    part.read(at as u32, &mut there[..piece.len()])?;
+    let mut wanted = [0; PAGE];
+    wanted[..piece.len()].copy_from_slice(piece);
+    turn(&mut wanted[..piece.len()]);
+    if !falls(&there[..piece.len()], &wanted[..piece.len()]) {
+        return Ok(false);
+    }
+    part.program(at as u32, &wanted[..piece.len()])?;
+    Ok(true)
+}
+
+/// Lays a piece where no bit can have to rise; it fails where one has to.
+pub fn lay_fresh<N: Nor>(part: &mut N, at: u64, piece: &[u8]) -> Result<(), Failed>
+    requires { length piece.now ≤ 256 }
+    ensures { OnOk result
+        (Follows (Put at (map turned piece.now)) (N.holds part.old) (N.holds part.new)) }
+{
+    if lay(part, at, piece)? {
+        return Ok(());
+    }
+    Err(Failed)
+}
+
+/// Whether a sector reads as erased.
+pub fn is_blank<N: Nor>(part: &mut N, sector: u32) -> Result<bool, Failed>
+    ensures { (c : List ℕ) → N.holds part.new c → N.holds part.old c }
+{
+    let mut page = [0; PAGE];
+    for k in 0..16 {
+        fetch(part, start_of(sector) + 256 * k, &mut page)?;
+        if !are_zeros(&page) {
+            return Ok(false);
+        }
+    }
+    Ok(true)
+}
+
+/// Erases a sector, unless it reads as erased.
+pub fn wipe<N: Nor>(part: &mut N, sector: u32) -> Result<(), Failed> {
+    if is_blank(part, sector)? {
+        return Ok(());
+    }
+    if !has(part, start_of(sector), SECTOR as usize) {
+        return Err(Failed);
+    }
+    part.erase(sector)
+}
