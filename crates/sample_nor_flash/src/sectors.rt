@@ -1,11 +1,11 @@
 //! Bytes of the part, turned, by their places; a place beyond it fails.
 
-ghost use Rattle.std.specs.Prelude.{◌≡◌, ℕ, ◌*◌, ◌≤◌, List, length, OnOk, IfOk, map};
+ghost use Rattle.std.specs.Prelude.{◌≡◌, ℕ, ◌+◌, ◌*◌, ◌≤◌, List, length, OnOk, IfOk, IfSome};
 ghost use Rattle.std.specs.Bool.{OnTrue};
-ghost use Rattle.flash_session.specs.Contents.{SameOutside, Put, Follows};
-ghost use Rattle.sample_nor_flash.specs.Cells.{GivesTurned, turned};
+ghost use Rattle.flash_session.specs.Contents.{SameOutside, Follows};
+ghost use Rattle.sample_nor_flash.specs.Cells.{GivesTurned, PutTurned};
 
-use crate::bytes::{PAGE, are_zeros, falls, turn};
+use crate::bytes::{PAGE, are_zeros, falls, turn, turn_into};
 use crate::layout::SECTOR;
 use crate::nor::Nor;
 use flash_session::Failed;
@@ -17,9 +17,15 @@ pub fn start_of(sector: u32) -> u64
     sector as u64 * SECTOR as u64
 }
 
-/// Whether the part has so many bytes from a place on.
-fn has<N: Nor>(part: &N, at: u64, len: usize) -> bool {
-    at <= part.size() as u64 && len as u64 <= part.size() as u64 - at
+/// The place, if the part has so many bytes from there on.
+fn inside<N: Nor>(part: &N, at: u64, len: usize) -> Option<u32>
+    ensures { IfSome result (λ place. (place ≡ at) × (at + len ≤ N.room part.now)) }
+{
+    let size = part.size();
+    if at > size as u64 || len as u64 > size as u64 - at {
+        return None;
+    }
+    Some(at as u32)
 }
 
 /// Reads the bytes from a place on, turned.
@@ -27,10 +33,10 @@ pub fn fetch<N: Nor>(part: &mut N, at: u64, buf: &mut [u8]) -> Result<(), Failed
     ensures told { OnOk result (GivesTurned (N.holds part.new) at buf.new) }
     ensures stays { (c : List ℕ) → N.holds part.new c → N.holds part.old c }
 {
-    if !has(part, at, buf.len()) {
+    let Some(place) = inside(part, at, buf.len()) else {
         return Err(Failed);
-    }
-    part.read(at as u32, buf)?;
+    };
+    part.read(place, buf)?;
     turn(buf);
     Ok(())
 }
@@ -39,22 +45,23 @@ pub fn fetch<N: Nor>(part: &mut N, at: u64, buf: &mut [u8]) -> Result<(), Failed
 pub fn lay<N: Nor>(part: &mut N, at: u64, piece: &[u8]) -> Result<bool, Failed>
     requires { length piece.now ≤ 256 }
     ensures laid { IfOk result (λ done. OnTrue done
-        (Follows (Put at (map turned piece.now)) (N.holds part.old) (N.holds part.new))) }
+        (Follows (PutTurned at piece.now) (N.holds part.old) (N.holds part.new))) }
     ensures outside { Follows (SameOutside at (length piece.now)) (N.holds part.old)
         (N.holds part.new) }
 {
-    if !has(part, at, piece.len()) {
+    let Some(place) = inside(part, at, piece.len()) else {
         return Err(Failed);
-    }
-    let mut there = [0; PAGE];
-    part.read(at as u32, &mut there[..piece.len()])?;
-    let mut wanted = [0; PAGE];
-    wanted[..piece.len()].copy_from_slice(piece);
-    turn(&mut wanted[..piece.len()]);
-    if !falls(&there[..piece.len()], &wanted[..piece.len()]) {
+    };
+    let mut old = [0; PAGE];
+    let old = &mut old[..piece.len()];
+    part.read(place, old)?;
+    let mut new = [0; PAGE];
+    let new = &mut new[..piece.len()];
+    turn_into(new, piece);
+    if !falls(old, new) {
         return Ok(false);
     }
-    part.program(at as u32, &wanted[..piece.len()])?;
+    part.program(place, new)?;
     Ok(true)
 }
 
@@ -62,7 +69,7 @@ pub fn lay<N: Nor>(part: &mut N, at: u64, piece: &[u8]) -> Result<bool, Failed>
 pub fn lay_fresh<N: Nor>(part: &mut N, at: u64, piece: &[u8]) -> Result<(), Failed>
     requires { length piece.now ≤ 256 }
     ensures { OnOk result
-        (Follows (Put at (map turned piece.now)) (N.holds part.old) (N.holds part.new)) }
+        (Follows (PutTurned at piece.now) (N.holds part.old) (N.holds part.new)) }
 {
     if lay(part, at, piece)? {
         return Ok(());
@@ -89,7 +96,7 @@ pub fn wipe<N: Nor>(part: &mut N, sector: u32) -> Result<(), Failed> {
     if is_blank(part, sector)? {
         return Ok(());
     }
-    if !has(part, start_of(sector), SECTOR as usize) {
+    if inside(part, start_of(sector), SECTOR as usize).is_none() {
         return Err(Failed);
     }
     part.erase(sector)
