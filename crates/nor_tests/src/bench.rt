@@ -1,14 +1,17 @@
 //! A receiver over a flash, and the files that it is sent.
 
 ghost use Rattle.std.specs.Prelude.{◌≡◌, ◌≤◌, IfOk};
+ghost use Rattle.flash_session.specs.Body.{FieldsFit};
 ghost use Rattle.sample_receiver.specs.HeldReceiver.{extent};
 ghost use Rattle.sample_flash_receiver.specs.HeldReceiver.{span, IsReceiver};
 
+use crate::part::TestPart;
 use arrayvec::ArrayVec;
 use flash_session::Flash;
 use frag_encoder::Encoder;
 use frag_session::SetupReq;
-use sample_flash_receiver::{Arena, Receiver, arena, file, hear, set_up, start};
+use sample_flash_receiver::{Arena, Receiver, SPAN, arena, file, hear, set_up, start};
+use sample_nor_flash::NorFlash;
 use std::alloc::Global;
 use std::process::Abort;
 use std::test::*;
@@ -17,8 +20,8 @@ use std::test::*;
 pub const PIECE: usize = 48;
 
 /// A file of so many pieces, whose bytes are drawn from a number.
-pub fn encoder(rt: &impl Abort, alloc: Global, pieces: usize, number: u32) -> Encoder {
-    let Ok(mut bytes) = vec![in alloc; 0u8; pieces * PIECE] else {
+pub fn encoder(rt: &impl Abort, alloc: Global, pieces: u16, number: u32) -> Encoder {
+    let Ok(mut bytes) = vec![in alloc; 0u8; pieces as usize * PIECE] else {
         panic!(rt; "no memory");
     };
     let mut state = number;
@@ -46,7 +49,9 @@ pub fn payload(rt: &impl Abort, encoder: &Encoder, n: u16) -> [u8; 51] {
 }
 
 /// FragSessionSetupReq of session 0 for the file, which its number names.
-pub fn request(encoder: &Encoder, number: u32) -> SetupReq {
+pub fn request(encoder: &Encoder, number: u32) -> SetupReq
+    ensures { FieldsFit result }
+{
     SetupReq {
         index: 0,
         mask: 0,
@@ -69,37 +74,65 @@ pub fn empty(rt: &impl Abort, alloc: Global) -> Arena
     }
 }
 
-/// With what lies in the flash.
-pub fn started<F: Flash>(rt: &impl Abort, flash: &mut F, empty: Arena) -> Receiver
-    requires arena { empty ≡ extent }
-    requires room { span ≤ (F.seen flash.old).room }
-    ensures receiver { IsReceiver result }
-    ensures room { span ≤ (F.seen flash.new).room }
+/// A driver over the part.
+pub fn flash_over(rt: &impl Abort, part: TestPart) -> NorFlash<TestPart>
+    ensures { span ≤ result.size }
 {
-    match start(flash, empty) {
-        Ok(receiver) => receiver,
+    match NorFlash::over(part, SPAN, 1) {
+        Some(flash) => flash,
+        None => panic!(rt; "no range"),
+    }
+}
+
+/// A flash, and the receiver over it.
+#[derive(Drop)]
+pub struct Stand<F: Flash + Drop> {
+    pub flash: F,
+    pub receiver: Receiver,
+    ghost room: { span ≤ (F.seen flash).room },
+    ghost is: { IsReceiver receiver },
+}
+
+/// With what lies in the flash.
+pub fn started<F: Flash + Drop>(rt: &impl Abort, flash: F, empty: Arena) -> Stand<F>
+    requires arena { empty ≡ extent }
+    requires room { span ≤ (F.seen flash).room }
+{
+    let mut flash = flash;
+    match start(&mut flash, empty) {
+        Ok(receiver) => Stand { flash, receiver },
         Err(_) => panic!(rt; "the flash is not opened"),
     }
 }
 
 /// A session begins, over whatever lives.
-pub fn begun<F: Flash>(
+fn begun<F: Flash + Drop>(
     rt: &impl Abort,
-    receiver: Receiver,
-    flash: &mut F,
+    stand: Stand<F>,
     encoder: &Encoder,
     number: u32,
-) -> Receiver
-    requires receiver { IsReceiver receiver }
-    requires room { span ≤ (F.seen flash.old).room }
-    ensures receiver { IsReceiver result }
-    ensures room { span ≤ (F.seen flash.new).room }
-{
-    match set_up(receiver, flash, request(encoder, number)) {
+) -> Stand<F> {
+    let Stand {
+        mut flash,
+        receiver,
+    } = stand;
+    match set_up(receiver, &mut flash, request(encoder, number)) {
         Ok((receiver, bits)) => {
             assert!(rt; bits == 0);
-            receiver
+            Stand { flash, receiver }
         }
+        Err(_) => panic!(rt; "the flash failed"),
+    }
+}
+
+/// A fragment is heard.
+fn heard<F: Flash + Drop>(rt: &impl Abort, stand: Stand<F>, payload: &[u8; 51]) -> Stand<F> {
+    let Stand {
+        mut flash,
+        receiver,
+    } = stand;
+    match hear(receiver, &mut flash, payload, 1) {
+        Ok(receiver) => Stand { flash, receiver },
         Err(_) => panic!(rt; "the flash failed"),
     }
 }
@@ -113,27 +146,18 @@ pub fn is_whole(receiver: &Receiver, encoder: &Encoder) -> bool {
 }
 
 /// A session from its setup until its file is whole; each 25th fragment is lost.
-pub fn received<F: Flash>(
+pub fn received<F: Flash + Drop>(
     rt: &impl Abort,
-    receiver: Receiver,
-    flash: &mut F,
+    stand: Stand<F>,
     encoder: &Encoder,
     number: u32,
-) -> Receiver
-    requires receiver { IsReceiver receiver }
-    requires room { span ≤ (F.seen flash.old).room }
-    ensures receiver { IsReceiver result }
-    ensures room { span ≤ (F.seen flash.new).room }
-{
-    let mut receiver = begun(rt, receiver, flash, encoder, number);
+) -> Stand<F> {
+    let mut stand = begun(rt, stand, encoder, number);
     for n in 1..encoder.nb_frag() + 24 {
-        if n % 25 != 0 && !is_whole(&receiver, encoder) {
-            receiver = match hear(receiver, flash, &payload(rt, encoder, n), n as u64) {
-                Ok(receiver) => receiver,
-                Err(_) => panic!(rt; "the flash failed"),
-            };
+        if n % 25 != 0 && !is_whole(&stand.receiver, encoder) {
+            stand = heard(rt, stand, &payload(rt, encoder, n));
         }
     }
-    assert!(rt; is_whole(&receiver, encoder));
-    receiver
+    assert!(rt; is_whole(&stand.receiver, encoder));
+    stand
 }

@@ -1,13 +1,8 @@
 //! Erases of three sessions, one after the other, of 256 pieces of 48 bytes of which 10 are lost.
 
-ghost use Rattle.std.specs.Prelude.{◌≡◌, ◌≤◌};
-ghost use Rattle.sample_flash_receiver.specs.HeldReceiver.{span};
-
-use crate::bench::{empty, encoder, received, started};
+use crate::bench::{empty, encoder, flash_over, received, started};
 use crate::letter::Letter;
 use crate::part::TestPart;
-use sample_flash_receiver::SPAN;
-use sample_nor_flash::{NorFlash, sectors_of};
 use std::alloc::Global;
 use std::process::Abort;
 use std::test::*;
@@ -23,62 +18,50 @@ fn sum_and_most(erases: &[u32]) -> (u32, u32) {
     (sum, most)
 }
 
-/// The erases of each of three sessions, by sums from the first on; and those of one sector in all three.
+/// The erases from the first session on, and those of the sector that has most: after one session, two, and three.
 static OF_DRIVER: [(u32, u32); 3] = [(0, 0), (7, 1), (15, 2)];
 
-static OF_LETTER: [(u32, u32); 3] = [(519, 258), (1037, 516), (1555, 774)];
+static OF_LETTER: [(u32, u32); 3] = [(258, 256), (776, 514), (1294, 772)];
 
 static OF_TURNED: [(u32, u32); 3] = [(0, 0), (262, 72), (525, 144)];
 
 #[test]
 fn a_session_takes_at_most_eight_erases(rt: HostRuntime) {
-    let Ok(part) = TestPart::reserve(rt.alloc(), sectors_of(SPAN)) else {
+    let Ok(part) = TestPart::reserve(rt.alloc()) else {
         panic!(rt; "no memory");
     };
-    let Some(mut flash) = NorFlash::over(part, SPAN, 1) else {
-        panic!(rt; "no range");
-    };
-    let mut receiver = started(&rt, &mut flash, empty(&rt, rt.alloc()));
-    for (k, wanted) in OF_DRIVER.iter().enumerate() {
+    let flash = flash_over(&rt, part);
+    let mut stand = started(&rt, flash, empty(&rt, rt.alloc()));
+    let mut counts = [(0, 0); 3];
+    for k in 0..3 {
         let encoder = encoder(&rt, rt.alloc(), 256, k as u32);
-        receiver = received(&rt, receiver, &mut flash, &encoder, k as u32);
-        let (sum, most) = sum_and_most(&flash.part().erases);
-        let _ = println!(rt; "driver {k}: {sum} {most}");
-        assert!(rt; sum == wanted.0 && most == wanted.1);
+        stand = received(&rt, stand, &encoder, k as u32);
+        counts[k] = sum_and_most(&stand.flash.part().erases);
         drop(encoder);
     }
-    drop(receiver);
-    drop(flash);
+    assert!(rt; counts == OF_DRIVER);
+    drop(stand);
 }
 
 /// The erases, by the letter, of one session after another.
-fn by_the_letter(rt: &impl Abort, alloc: Global, first: usize, is_turned: bool) -> [(u32, u32); 3] {
-    let Ok(mut flash) = Letter::reserve(alloc, first, is_turned) else {
+fn by_the_letter(rt: &impl Abort, alloc: Global, first: u16, is_turned: bool) -> [(u32, u32); 3] {
+    let Ok(flash) = Letter::reserve(alloc, first as usize, is_turned) else {
         panic!(rt; "no memory");
     };
-    let mut receiver = started(rt, &mut flash, empty(rt, alloc));
+    let mut stand = started(rt, flash, empty(rt, alloc));
     let mut counts = [(0, 0); 3];
     for k in 0..3 {
         let encoder = encoder(rt, alloc, 256, k as u32);
-        receiver = received(rt, receiver, &mut flash, &encoder, k as u32);
-        counts[k] = sum_and_most(&flash.erases);
+        stand = received(rt, stand, &encoder, k as u32);
+        counts[k] = sum_and_most(&stand.flash.erases);
         drop(encoder);
     }
-    drop(receiver);
-    drop(flash);
+    drop(stand);
     counts
 }
 
 #[test]
 fn by_the_letter_a_fragment_takes_one(rt: HostRuntime) {
-    let plain = by_the_letter(&rt, rt.alloc(), 0, false);
-    let turned = by_the_letter(&rt, rt.alloc(), 4032, true);
-    for k in 0..3 {
-        let _ = println!(rt;
-            "letter {} {} {} {}",
-            plain[k].0, plain[k].1, turned[k].0, turned[k].1
-        );
-    }
-    assert!(rt; plain == OF_LETTER);
-    assert!(rt; turned == OF_TURNED);
+    assert!(rt; by_the_letter(&rt, rt.alloc(), 0, false) == OF_LETTER);
+    assert!(rt; by_the_letter(&rt, rt.alloc(), 4032, true) == OF_TURNED);
 }

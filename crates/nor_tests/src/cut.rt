@@ -4,45 +4,30 @@ ghost use Rattle.std.specs.Prelude.{◌≡◌, ◌≤◌};
 ghost use Rattle.sample_receiver.specs.HeldReceiver.{extent};
 ghost use Rattle.sample_flash_receiver.specs.HeldReceiver.{span, IsReceiver};
 
-use crate::bench::{empty, encoder, is_whole, payload, request};
+use crate::bench::{Stand, empty, encoder, flash_over, is_whole, payload, request};
 use crate::part::{Tear, TestPart};
 use frag_encoder::Encoder;
 use frag_session::Via;
-use sample_flash_receiver::{Arena, Receiver, SPAN, hear, set_up, start};
-use sample_nor_flash::{NorFlash, sectors_of};
+use sample_flash_receiver::{Arena, Receiver, hear, set_up, start};
+use sample_nor_flash::NorFlash;
 use std::alloc::Global;
 use std::process::Abort;
 use std::test::*;
 
 /// Pieces of the three files: their records lie in two sectors.
-static PIECES: [usize; 3] = [76, 75, 77];
+static PIECES: [u16; 3] = [76, 75, 77];
 
 /// Each of these fragments is lost, and the one after it comes twice.
 const LOST: u16 = 20;
 
-/// A flash, and the receiver over it.
-#[derive(Drop)]
-struct Stand {
-    flash: NorFlash<TestPart>,
-    receiver: Receiver,
-    ghost room: { span ≤ flash.size },
-    ghost is: { IsReceiver receiver },
-}
+/// A driver over the part, and the receiver over it.
+type Driven = Stand<NorFlash<TestPart>>;
 
 /// How many fragments of the session that lives were heard; None where none lives.
 fn heard_by(receiver: &Receiver) -> Option<u16> {
     match receiver.status(Via::Unicast, true) {
         Some(status) => Some(status.received),
         None => None,
-    }
-}
-
-fn flash_over(rt: &impl Abort, part: TestPart) -> NorFlash<TestPart>
-    ensures { span ≤ result.size }
-{
-    match NorFlash::over(part, SPAN, 1) {
-        Some(flash) => flash,
-        None => panic!(rt; "no range"),
     }
 }
 
@@ -56,7 +41,7 @@ fn powered(rt: &impl Abort, flash: NorFlash<TestPart>) -> NorFlash<TestPart>
 }
 
 /// With what lies in the flash, once more where the opening is stopped.
-fn opened(rt: &impl Abort, flash: NorFlash<TestPart>, empty: Arena) -> Stand
+fn opened(rt: &impl Abort, flash: NorFlash<TestPart>, empty: Arena) -> Driven
     requires arena { empty ≡ extent }
     requires room { span ≤ flash.size }
 {
@@ -74,7 +59,7 @@ fn opened(rt: &impl Abort, flash: NorFlash<TestPart>, empty: Arena) -> Stand
 }
 
 /// A fragment is heard. After a stop there is what was acknowledged, or that and the fragment.
-fn heard(rt: &impl Abort, stand: Stand, payload: &[u8; 51]) -> Stand {
+fn heard(rt: &impl Abort, stand: Driven, payload: &[u8; 51]) -> Driven {
     let before = heard_by(&stand.receiver).unwrap_or(0);
     let Stand {
         mut flash,
@@ -97,11 +82,11 @@ fn heard(rt: &impl Abort, stand: Stand, payload: &[u8; 51]) -> Stand {
 /// A setup. After a stop there is the session that was, none, or the new one with nothing heard.
 fn set_up_once(
     rt: &impl Abort,
-    stand: Stand,
+    stand: Driven,
     old: Option<&Encoder>,
     encoder: &Encoder,
     number: u32,
-) -> Stand {
+) -> Driven {
     let before = heard_by(&stand.receiver);
     let Stand {
         mut flash,
@@ -129,11 +114,11 @@ fn set_up_once(
 /// A session from its setup until its file is whole. A fragment in which the part was stopped is not sent again.
 fn received(
     rt: &impl Abort,
-    stand: Stand,
+    stand: Driven,
     old: Option<&Encoder>,
     encoder: &Encoder,
     number: u32,
-) -> Stand {
+) -> Driven {
     let mut stand = set_up_once(rt, stand, old, encoder, number);
     for _ in 0..2 {
         stand = set_up_once(rt, stand, old, encoder, number);
@@ -152,11 +137,20 @@ fn received(
     stand
 }
 
-/// Three sessions over a part that is stopped after so many programs and erases, and again: how many it made.
-fn run(rt: &impl Abort, alloc: Global, files: &[Encoder; 3], stops: [(u32, Tear); 2]) -> u32 {
-    let Ok(mut part) = TestPart::reserve(alloc, sectors_of(SPAN)) else {
+/// Three sessions over a part, of which the journal may be full, that is stopped after so many programs and erases, and again: how many it made.
+fn run(
+    rt: &impl Abort,
+    alloc: Global,
+    files: &[Encoder; 3],
+    is_full: bool,
+    stops: [(u32, Tear); 2],
+) -> u32 {
+    let Ok(mut part) = TestPart::reserve(alloc) else {
         panic!(rt; "no memory");
     };
+    if is_full {
+        part.fill_journal();
+    }
     part.left = stops[0].0;
     part.tear = stops[0].1;
     part.then = stops[1].0;
@@ -184,17 +178,53 @@ const NEVER: (u32, Tear) = (u32::MAX, Tear::Nothing);
 
 static TEARS: [Tear; 4] = [Tear::Nothing, Tear::Drawn, Tear::Open, Tear::All];
 
-#[test]
-fn a_session_outlasts_a_stop_at_any_moment(rt: HostRuntime) {
-    let files = files(&rt, rt.alloc());
-    let all = run(&rt, rt.alloc(), &files, [NEVER, NEVER]);
-    let _ = println!(rt; "{all}");
-    for first in 0..2 {
-        for k in 0..4 {
-            let again = (7 * first + 11 * k as u32) % 37;
-            let tear = TEARS[(first as usize + k) % 4];
-            run(&rt, rt.alloc(), &files, [(first, TEARS[k]), (again, tear)]);
+/// Stopped at each moment, and a second time soon after it.
+fn stopped_everywhere(rt: &impl Abort, alloc: Global, is_full: bool, kind: u8) {
+    let files = files(rt, alloc);
+    let all = run(rt, alloc, &files, is_full, [NEVER, NEVER]);
+    assert!(rt; 500 < all && all < 700);
+    for first in 0..700u32 {
+        if first < all {
+            let tear = TEARS[(first as usize + kind as usize) % 4];
+            let soon = 7 * first % 37;
+            run(
+                rt,
+                alloc,
+                &files,
+                is_full,
+                [(first, TEARS[kind as usize % 4]), (soon, tear)],
+            );
         }
     }
     drop(files);
+}
+
+#[test]
+fn a_session_outlasts_a_stop_that_leaves_drawn_bits(rt: HostRuntime) {
+    stopped_everywhere(&rt, rt.alloc(), false, 1);
+}
+
+#[test]
+fn a_session_outlasts_a_stop_that_leaves_open_gates(rt: HostRuntime) {
+    stopped_everywhere(&rt, rt.alloc(), false, 2);
+}
+
+#[test]
+fn a_session_outlasts_a_stop_before_each_call(rt: HostRuntime) {
+    stopped_everywhere(&rt, rt.alloc(), false, 0);
+}
+
+#[test]
+fn a_session_outlasts_a_stop_after_each_call(rt: HostRuntime) {
+    stopped_everywhere(&rt, rt.alloc(), false, 3);
+}
+
+#[test]
+fn a_full_journal_outlasts_a_stop_that_leaves_drawn_bits(rt: HostRuntime) {
+    stopped_everywhere(&rt, rt.alloc(), true, 1);
+}
+
+#[test]
+fn a_full_journal_outlasts_a_stop_that_leaves_open_gates(rt: HostRuntime) {
+    stopped_everywhere(&rt, rt.alloc(), true, 2);
 }

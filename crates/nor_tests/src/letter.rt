@@ -20,7 +20,7 @@ const SIZE: u32 = 54_394;
 
 impl Letter {
     pub fn reserve(alloc: Global, first: usize, is_turned: bool) -> Result<Letter, AllocError> {
-        let bytes = vec![in alloc; if is_turned { 0xffu8 } else { 0 }; 16 * 4096]?;
+        let bytes = vec![in alloc; 0xffu8; 16 * 4096]?;
         let erases = vec![in alloc; 0u32; 16]?;
         Ok(Letter {
             bytes,

@@ -1,10 +1,11 @@
 //! A part in memory, which can be stopped.
 
-ghost use Rattle.std.specs.Prelude.{◌≡◌, length};
-
 use flash_session::Failed;
 use sample_nor_flash::Nor;
 use std::alloc::{AllocError, Global};
+
+/// The sectors of the part, those of one range.
+pub const SECTORS: u16 = 17;
 
 /// What a stop leaves of the call that it comes in.
 #[derive(Clone, Copy)]
@@ -22,7 +23,7 @@ pub enum Tear {
 /// A part of NOR flash. It counts the erases of each sector, and once its calls are spent it is stopped.
 #[derive(Drop)]
 pub struct TestPart {
-    pub bytes: Vec<u8>,
+    bytes: Vec<u8>,
     pub erases: Vec<u32>,
     /// Programs and erases until the stop.
     pub left: u32,
@@ -37,10 +38,10 @@ pub struct TestPart {
 }
 
 impl TestPart {
-    /// A part of so many sectors, erased.
-    pub fn reserve(alloc: Global, sectors: u32) -> Result<TestPart, AllocError> {
-        let bytes = vec![in alloc; 0xffu8; sectors as usize * 4096]?;
-        let erases = vec![in alloc; 0u32; sectors as usize]?;
+    /// A part that is erased.
+    pub fn reserve(alloc: Global) -> Result<TestPart, AllocError> {
+        let bytes = vec![in alloc; 0xffu8; SECTORS as usize * 4096]?;
+        let erases = vec![in alloc; 0u32; SECTORS as usize]?;
         Ok(TestPart {
             bytes,
             erases,
@@ -52,6 +53,19 @@ impl TestPart {
             stopped: false,
             state: 1,
         })
+    }
+
+    /// A journal with no entry left.
+    pub fn fill_journal(&mut self) {
+        for i in 0..4096 {
+            if let Some(byte) = self.bytes.get_mut(16 * 4096 + i) {
+                *byte = match i % 4 {
+                    0 => 0xfe,
+                    3 => 0xff,
+                    _ => 0x00,
+                };
+            }
+        }
     }
 
     /// The power comes back.
@@ -106,10 +120,10 @@ impl TestPart {
 impl Nor for TestPart {
     ghost holds = { λ part c. ⊥ };
 
-    ghost room = { λ part. length part.bytes.items };
+    ghost room = { λ part. 69632 };
 
     fn size(&self) -> u32 {
-        self.bytes.len() as u32
+        SECTORS as u32 * 4096
     }
 
     fn read(&mut self, at: u32, buf: &mut [u8]) -> Result<(), Failed> {
@@ -126,6 +140,9 @@ impl Nor for TestPart {
 
     fn program(&mut self, at: u32, piece: &[u8]) -> Result<(), Failed> {
         if self.stopped {
+            return Err(Failed);
+        }
+        if at as usize % 256 + piece.len() > 256 {
             return Err(Failed);
         }
         let whole = self.is_whole();

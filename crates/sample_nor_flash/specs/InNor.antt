@@ -2,15 +2,16 @@
 use Rattle.std.specs.Prelude.{ℕ, ◌^◌, ◌<◌}
 use Rattle.flash_session.specs.Seen.{FlashSeen}
 
--- how many bytes its ranges have, and how many of its calls failed
-pub record InNor : Type 0 where
+-- the part, how many bytes its ranges have, and how many of its calls failed
+pub record InNor (N : Type 0) : Type 0 where
+  pub part : N
   pub size : ℕ
   pub faults : ℕ
   pub small : size < 2 ^ 32
 
 -- no content is told, so of what it holds and of what a stop leaves nothing is said
-abbrev pub nor_seen : InNor → FlashSeen
-nor_seen flash = record {
+abbrev pub nor_seen : {N : Type 0} → InNor N → FlashSeen
+nor_seen {N} flash = record {
   holds = λ c. ⊥;
   since = λ t c. ⊥;
   moment = 0;

@@ -34,16 +34,17 @@ struct Ranges {
 impl<N: Nor + Drop> Model for NorFlash<N> {
     ghost use Rattle.sample_nor_flash.specs.InNor.{InNor};
 
-    ghost Value = { InNor };
+    ghost Value = { InNor N };
 
-    ghost view = { λ f. record { size = f.ranges.size; faults = f.failed; small = f.small } };
+    ghost view = { λ f. record { part = f.part; size = f.ranges.size; faults = f.failed; small = f.small } };
 }
 
 impl<N: Nor + Drop> NorFlash<N> {
     /// So many ranges of `span` bytes, one after the other, in the sectors of the part from its first on, of which each takes
     /// `sectors_of(span)`. None where a range is shorter than 24,640 bytes, or the part has not as many sectors.
     pub fn over(part: N, span: u32, ranges: u32) -> Option<Self>
-        ensures { IfSome result (λ f. (f.size ≡ span * ranges) × (f.faults ≡ 0)) }
+        ensures made { IfSome result (λ f. (f.part ≡ part) × (f.size ≡ span * ranges)) }
+        ensures faults { IfSome result (λ f. f.faults ≡ 0) }
     {
         let size = span.checked_mul(ranges)?;
         let sectors = sectors_of(span).checked_mul(ranges)?;
@@ -59,12 +60,16 @@ impl<N: Nor + Drop> NorFlash<N> {
     }
 
     /// The part.
-    pub fn part(&self) -> &N {
+    pub fn part(&self) -> &N
+        ensures { result.now ≡ self.now.part }
+    {
         &self.part
     }
 
     /// The part back.
-    pub fn inner(self) -> N {
+    pub fn inner(self) -> N
+        ensures { result ≡ self.part }
+    {
         self.part
     }
 }
