@@ -1,6 +1,6 @@
 //! A receiver over a flash, and the files that it is sent.
 
-ghost use Rattle.std.specs.Prelude.{◌≡◌, ◌≤◌, IfOk};
+ghost use Rattle.std.specs.Prelude.{◌*◌, ◌≡◌, ◌≤◌, IfOk};
 ghost use Rattle.flash_session.specs.Body.{FieldsFit};
 ghost use Rattle.sample_receiver.specs.HeldReceiver.{extent};
 ghost use Rattle.sample_flash_receiver.specs.HeldReceiver.{span, IsReceiver};
@@ -74,11 +74,11 @@ pub fn empty(rt: &impl Abort, alloc: Global) -> Arena
     }
 }
 
-/// A driver over the part.
+/// A driver of two ranges over the part.
 pub fn flash_over(rt: &impl Abort, part: TestPart) -> NorFlash<TestPart>
-    ensures { span ≤ result.size }
+    ensures { result.size ≡ 2 * span }
 {
-    match NorFlash::over(part, SPAN, 1) {
+    match NorFlash::over(part, SPAN, 2) {
         Some(flash) => flash,
         None => panic!(rt; "no range"),
     }

@@ -3,6 +3,8 @@
 use crate::bench::{empty, encoder, flash_over, received, started};
 use crate::letter::Letter;
 use crate::part::TestPart;
+use flash_session::Flash;
+use sample_flash_receiver::SPAN;
 use std::alloc::Global;
 use std::process::Abort;
 use std::test::*;
@@ -40,6 +42,29 @@ fn a_session_takes_at_most_eight_erases(rt: HostRuntime) {
         drop(encoder);
     }
     assert!(rt; counts == OF_DRIVER);
+    drop(stand);
+}
+
+#[test]
+fn a_session_leaves_another_range_alone(rt: HostRuntime) {
+    let Ok(part) = TestPart::reserve(rt.alloc()) else {
+        panic!(rt; "no memory");
+    };
+    let mut flash = flash_over(&rt, part);
+    assert!(rt; flash.write(SPAN + 64, &[0xa5]).is_ok());
+    let mut stand = started(&rt, flash, empty(&rt, rt.alloc()));
+    for k in 0..2 {
+        let encoder = encoder(&rt, rt.alloc(), 256, k);
+        stand = received(&rt, stand, &encoder, k);
+        drop(encoder);
+    }
+    let part = stand.flash.part();
+    for (place, byte) in part.bytes.iter().enumerate() {
+        if 17 * 4096 <= place {
+            let wanted = if place == 18 * 4096 { 0x5a } else { 0xff };
+            assert!(rt; *byte == wanted);
+        }
+    }
     drop(stand);
 }
 

@@ -176,7 +176,13 @@ fn files(rt: &impl Abort, alloc: Global) -> [Encoder; 3] {
 
 const NEVER: (u32, Tear) = (u32::MAX, Tear::Nothing);
 
-static TEARS: [Tear; 4] = [Tear::Nothing, Tear::Drawn, Tear::Open, Tear::All];
+static TEARS: [Tear; 5] = [
+    Tear::Nothing,
+    Tear::Drawn,
+    Tear::Open,
+    Tear::Entry,
+    Tear::All,
+];
 
 /// Stopped at each moment, and a second time soon after it.
 fn stopped_everywhere(rt: &impl Abort, alloc: Global, is_full: bool, kind: u8) {
@@ -185,14 +191,14 @@ fn stopped_everywhere(rt: &impl Abort, alloc: Global, is_full: bool, kind: u8) {
     assert!(rt; 500 < all && all < 700);
     for first in 0..700u32 {
         if first < all {
-            let tear = TEARS[(first as usize + kind as usize) % 4];
+            let tear = TEARS[(first as usize + kind as usize) % 5];
             let soon = 7 * first % 37;
             run(
                 rt,
                 alloc,
                 &files,
                 is_full,
-                [(first, TEARS[kind as usize % 4]), (soon, tear)],
+                [(first, TEARS[kind as usize % 5]), (soon, tear)],
             );
         }
     }
@@ -216,7 +222,7 @@ fn a_session_outlasts_a_stop_before_each_call(rt: HostRuntime) {
 
 #[test]
 fn a_session_outlasts_a_stop_after_each_call(rt: HostRuntime) {
-    stopped_everywhere(&rt, rt.alloc(), false, 3);
+    stopped_everywhere(&rt, rt.alloc(), false, 4);
 }
 
 #[test]
@@ -225,6 +231,6 @@ fn a_full_journal_outlasts_a_stop_that_leaves_drawn_bits(rt: HostRuntime) {
 }
 
 #[test]
-fn a_full_journal_outlasts_a_stop_that_leaves_open_gates(rt: HostRuntime) {
-    stopped_everywhere(&rt, rt.alloc(), true, 2);
+fn a_full_journal_outlasts_a_stop_that_leaves_open_entries(rt: HostRuntime) {
+    stopped_everywhere(&rt, rt.alloc(), true, 3);
 }

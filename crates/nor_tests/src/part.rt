@@ -4,8 +4,8 @@ use flash_session::Failed;
 use sample_nor_flash::Nor;
 use std::alloc::{AllocError, Global};
 
-/// The sectors of the part, those of one range.
-pub const SECTORS: u16 = 17;
+/// The sectors of the part, those of two ranges.
+const SECTORS: usize = 34;
 
 /// What a stop leaves of the call that it comes in.
 #[derive(Clone, Copy)]
@@ -16,6 +16,8 @@ pub enum Tear {
     Drawn,
     /// Bytes that read as open gates where an erase was stopped, and a program that had half of its bytes.
     Open,
+    /// Bytes that read as open entries of the journal, for the first sector of records.
+    Entry,
     /// All but its return.
     All,
 }
@@ -23,7 +25,7 @@ pub enum Tear {
 /// A part of NOR flash. It counts the erases of each sector, and once its calls are spent it is stopped.
 #[derive(Drop)]
 pub struct TestPart {
-    bytes: Vec<u8>,
+    pub bytes: Vec<u8>,
     pub erases: Vec<u32>,
     /// Programs and erases until the stop.
     pub left: u32,
@@ -40,8 +42,8 @@ pub struct TestPart {
 impl TestPart {
     /// A part that is erased.
     pub fn reserve(alloc: Global) -> Result<TestPart, AllocError> {
-        let bytes = vec![in alloc; 0xffu8; SECTORS as usize * 4096]?;
-        let erases = vec![in alloc; 0u32; SECTORS as usize]?;
+        let bytes = vec![in alloc; 0xffu8; SECTORS * 4096]?;
+        let erases = vec![in alloc; 0u32; SECTORS]?;
         Ok(TestPart {
             bytes,
             erases,
@@ -61,7 +63,7 @@ impl TestPart {
             if let Some(byte) = self.bytes.get_mut(16 * 4096 + i) {
                 *byte = match i % 4 {
                     0 => 0xfe,
-                    3 => 0xff,
+                    1 => 0xff,
                     _ => 0x00,
                 };
             }
@@ -101,17 +103,22 @@ impl TestPart {
         match self.tear {
             Tear::Nothing => old,
             Tear::Drawn => old & (new | self.drawn()),
-            Tear::Open => { if is_front { old & new } else { old } }
+            Tear::Open | Tear::Entry => { if is_front { old & new } else { old } }
             Tear::All => old & new,
         }
     }
 
     /// What one byte is after an erase that is stopped.
-    fn torn_erased(&mut self, old: u8) -> u8 {
+    fn torn_erased(&mut self, old: u8, i: usize) -> u8 {
         match self.tear {
             Tear::Nothing => old,
             Tear::Drawn => self.drawn(),
             Tear::Open => 0x5a,
+            Tear::Entry => match i % 4 {
+                0 => 0xf7,
+                2 => 0x00,
+                _ => 0xff,
+            },
             Tear::All => 0xff,
         }
     }
@@ -120,10 +127,10 @@ impl TestPart {
 impl Nor for TestPart {
     ghost holds = { λ part c. ⊥ };
 
-    ghost room = { λ part. 69632 };
+    ghost room = { λ part. 139264 };
 
     fn size(&self) -> u32 {
-        SECTORS as u32 * 4096
+        139_264
     }
 
     fn read(&mut self, at: u32, buf: &mut [u8]) -> Result<(), Failed> {
@@ -172,7 +179,11 @@ impl Nor for TestPart {
         for i in 0..4096 {
             let place = sector as usize * 4096 + i;
             let old = self.bytes.get(place).copied().unwrap_or(0);
-            let new = if whole { 0xff } else { self.torn_erased(old) };
+            let new = if whole {
+                0xff
+            } else {
+                self.torn_erased(old, i)
+            };
             if let Some(byte) = self.bytes.get_mut(place) {
                 *byte = new;
             }

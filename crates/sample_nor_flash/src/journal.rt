@@ -1,6 +1,6 @@
-//! A sector is written anew by way of a copy in the spare one. The journal has an entry of four bytes for each time: the
-//! sector's number in the range, from 1 on; a byte that is not 0 once the copy is whole and counts; one that is not 0 once
-//! the sector has it; and one that is never written.
+//! A sector is written anew by way of a copy in the spare one. The journal has an entry of four bytes for each time: two for
+//! the sector's number in the range, from 1 on, the lowest byte first; a mark that is not 0 once the copy is whole and
+//! counts; and one that is not 0 once the sector has it.
 
 ghost use Rattle.std.specs.Prelude.{◌+◌, ◌^◌, ◌<◌, OnOk, IfOk};
 ghost use Rattle.std.specs.Bool.{OnTrue};
@@ -16,8 +16,11 @@ use flash_session::Failed;
 /// How many entries it has.
 const ENTRIES: u32 = SECTOR / 4;
 
-/// The byte of an entry that is set, and of a header's sector that was written anew: a copy is never blank.
+/// A mark that is set, and the label of a header's sector that was written anew: a copy is never blank.
 const SET: u8 = 0xff;
+
+/// Sectors that an entry has numbers for.
+pub const MOST: u32 = 65_535;
 
 /// What the journal says.
 #[derive(Clone, Copy)]
@@ -25,7 +28,7 @@ struct Found {
     /// The number of the next entry; `ENTRIES` where none is left.
     next: u32,
     /// The sector whose copy counts, of the entry before that; 0 where none does.
-    open: u8,
+    open: u16,
 }
 
 /// Reads the journal.
@@ -37,10 +40,11 @@ fn look<N: Nor>(part: &mut N, area: Area) -> Result<Found, Failed> {
         for e in 0..64 {
             let entry = &page[4 * e..4 * e + 4];
             if !are_zeros(entry) {
-                let counts = entry[1] != 0 && entry[2] == 0;
+                let counts = entry[2] != 0 && entry[3] == 0;
+                let number = entry[0] as u16 + 256 * entry[1] as u16;
                 found = Found {
                     next: 64 * k + e as u32 + 1,
-                    open: if counts { entry[0] } else { 0 },
+                    open: if counts { number } else { 0 },
                 };
             }
         }
@@ -55,14 +59,16 @@ fn entry_at(area: Area, entry: u32) -> u64
     start_of(area.journal()) + 4 * entry as u64
 }
 
-/// Whether an entry says that the copy counts.
-fn counts<N: Nor>(part: &mut N, entry: u64) -> Result<bool, Failed>
-    requires { entry < 2 ^ 48 }
-    ensures { IfOk result (λ set. OnTrue set (IsSet (N.holds part.new) (entry + 1))) }
+/// Whether a mark is set.
+fn is_set<N: Nor>(part: &mut N, mark: u64) -> Result<bool, Failed>
+    ensures { IfOk result (λ set. OnTrue set (IsSet (N.holds part.new) mark)) }
 {
     let mut byte = [0];
-    fetch(part, entry + 1, &mut byte)?;
-    Ok(byte[0] != 0)
+    fetch(part, mark, &mut byte)?;
+    if byte[0] == 0 {
+        return Ok(false);
+    }
+    Ok(true)
 }
 
 /// Copies a sector to one that is erased, with the piece over it.
@@ -88,11 +94,11 @@ fn copy<N: Nor>(part: &mut N, from: u32, to: u32, offset: u64, piece: &[u8]) -> 
 /// Gives a sector what its copy has, whose entry says that it counts, and closes the entry.
 fn restore<N: Nor>(part: &mut N, area: Area, k: u32, entry: u64) -> Result<(), Failed>
     requires place { entry < 2 ^ 48 }
-    requires counts { IsSet (N.holds part.old) (entry + 1) }
+    requires counts { IsSet (N.holds part.old) (entry + 2) }
 {
     wipe(part, area.sector(k))?;
     copy(part, area.spare(), area.sector(k), 0, &[])?;
-    lay_fresh(part, entry + 2, &[SET])
+    lay_fresh(part, entry + 3, &[SET])
 }
 
 /// What a stop left half done is done: a sector whose copy counts gets it. A blank spare sector is no copy.
@@ -103,10 +109,10 @@ pub fn recover<N: Nor>(part: &mut N, area: Area) -> Result<(), Failed> {
     }
     let k = found.open as u32 - 1;
     let entry = entry_at(area, found.next.saturating_sub(1));
-    if k < area.count() && !is_blank(part, area.spare())? && counts(part, entry)? {
+    if k < area.count() && !is_blank(part, area.spare())? && is_set(part, entry + 2)? {
         return restore(part, area, k, entry);
     }
-    lay_fresh(part, entry + 2, &[SET])
+    lay_fresh(part, entry + 3, &[SET])
 }
 
 /// Where the next entry of the journal lies, once the spare sector is erased. A full journal is erased after it: whatever a
@@ -126,13 +132,14 @@ fn next_entry<N: Nor>(part: &mut N, area: Area) -> Result<u64, Failed>
 /// Says that the copy of sector `k` counts, which lies whole in the spare sector.
 fn commit<N: Nor>(part: &mut N, area: Area, k: u32, entry: u64) -> Result<(), Failed>
     requires { entry < 2 ^ 48 }
-    ensures { OnOk result (IsSet (N.holds part.new) (entry + 1)) }
+    ensures { OnOk result (IsSet (N.holds part.new) (entry + 2)) }
 {
-    if k >= 255 || is_blank(part, area.spare())? {
+    if k >= MOST || is_blank(part, area.spare())? {
         return Err(Failed);
     }
-    lay_fresh(part, entry, &[k as u8 + 1])?;
-    lay_fresh(part, entry + 1, &[SET])
+    let number = k + 1;
+    lay_fresh(part, entry, &[(number % 256) as u8, (number / 256) as u8])?;
+    lay_fresh(part, entry + 2, &[SET])
 }
 
 /// Writes a sector anew, with the piece over what it has.

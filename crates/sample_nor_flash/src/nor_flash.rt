@@ -5,7 +5,7 @@ ghost use Rattle.flash_session.specs.Contents.{HasCause};
 
 use crate::area::Area;
 use crate::bytes::PAGE;
-use crate::journal::{close_header, recover, write_anew};
+use crate::journal::{MOST, close_header, recover, write_anew};
 use crate::layout::{FIRST, GATES, GATES_SIZE, RECORDS, SECTOR, sectors_of};
 use crate::nor::Nor;
 use crate::sectors::{fetch, lay, start_of, wipe};
@@ -41,14 +41,14 @@ impl<N: Nor + Drop> Model for NorFlash<N> {
 
 impl<N: Nor + Drop> NorFlash<N> {
     /// So many ranges of `span` bytes, one after the other, in the sectors of the part from its first on, of which each takes
-    /// `sectors_of(span)`. None where a range is shorter than 24,640 bytes, or the part has not as many sectors.
+    /// `sectors_of(span)`. None where a range is shorter than 24,640 bytes or has more than 65,535 sectors, or the part has not as many.
     pub fn over(part: N, span: u32, ranges: u32) -> Option<Self>
         ensures made { IfSome result (λ f. (f.part ≡ part) × (f.size ≡ span * ranges)) }
         ensures faults { IfSome result (λ f. f.faults ≡ 0) }
     {
         let size = span.checked_mul(ranges)?;
         let sectors = sectors_of(span).checked_mul(ranges)?;
-        if span < RECORDS || sectors > part.size() / SECTOR {
+        if span < RECORDS || sectors_of(span) > MOST || sectors > part.size() / SECTOR {
             return None;
         }
         Some(NorFlash {
