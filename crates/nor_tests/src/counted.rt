@@ -20,7 +20,8 @@ fn sum_and_most(erases: &[u32]) -> (u32, u32) {
     (sum, most)
 }
 
-/// The erases from the first session on, and those of the sector that has most: after one session, two, and three.
+/// The erases from the first session on, and those of the sector that has most: after one session,
+/// two, and three.
 static OF_DRIVER: [(u32, u32); 3] = [(0, 0), (7, 1), (15, 2)];
 
 static OF_LETTER: [(u32, u32); 3] = [(258, 256), (776, 514), (1294, 772)];

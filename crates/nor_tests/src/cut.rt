@@ -111,7 +111,8 @@ fn set_up_once(
     }
 }
 
-/// A session from its setup until its file is whole. A fragment in which the part was stopped is not sent again.
+/// A session from its setup until its file is whole. A fragment in which the part was stopped is
+/// not sent again.
 fn received(
     rt: &impl Abort,
     stand: Driven,
@@ -137,7 +138,8 @@ fn received(
     stand
 }
 
-/// Three sessions over a part, of which the journal may be full, that is stopped after so many programs and erases, and again: how many it made.
+/// Three sessions over a part, of which the journal may have one entry left, that is stopped after
+/// so many programs and erases, and again: how many it made.
 fn run(
     rt: &impl Abort,
     alloc: Global,

@@ -1,5 +1,5 @@
-//! Flashes that follow the formats by the letter over a part that erases whole sectors, with their bytes turned or not. They keep
-//! a sector in memory while it is erased.
+//! Flashes that follow the formats by the letter over a part that erases whole sectors, with their
+//! bytes turned or not. They keep a sector in memory while it is erased.
 
 ghost use Rattle.std.specs.Prelude.{◌≡◌, length};
 
@@ -34,7 +34,8 @@ impl Letter {
         if self.is_turned { !byte } else { byte }
     }
 
-    /// Writes a stretch, each byte as `byte_of` says. A sector in which a bit has to rise is erased once.
+    /// Writes a stretch, each byte as `byte_of` says. A sector in which a bit has to rise is erased
+    /// once.
     fn put(&mut self, at: usize, piece: Option<&[u8]>, len: usize) {
         let from = self.first.saturating_add(at);
         let mut erased = usize::MAX;

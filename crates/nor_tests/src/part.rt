@@ -14,7 +14,8 @@ pub enum Tear {
     Nothing,
     /// Any bits, drawn.
     Drawn,
-    /// Bytes that read as open gates where an erase was stopped, and a program that had half of its bytes.
+    /// Bytes that read as open gates where an erase was stopped, and a program that had half of its
+    /// bytes.
     Open,
     /// Bytes that read as open entries of the journal, for the first sector of records.
     Entry,
@@ -22,7 +23,8 @@ pub enum Tear {
     All,
 }
 
-/// A part of NOR flash. It counts the erases of each sector, and once its calls are spent it is stopped.
+/// A part of NOR flash. It counts the erases of each sector, and once its calls are spent it is
+/// stopped.
 #[derive(Drop)]
 pub struct TestPart {
     pub bytes: Vec<u8>,
@@ -57,9 +59,9 @@ impl TestPart {
         })
     }
 
-    /// A journal with no entry left.
+    /// A journal with one entry left.
     pub fn fill_journal(&mut self) {
-        for i in 0..4096 {
+        for i in 0..4092 {
             if let Some(byte) = self.bytes.get_mut(16 * 4096 + i) {
                 *byte = match i % 4 {
                     0 => 0xfe,

@@ -2,7 +2,8 @@
 
 use crate::layout::FIXED;
 
-/// The sectors of one range: its header's, six of gates, those of its records, a spare one, and the journal's.
+/// The sectors of one range: its header's, six of gates, those of its records, a spare one, and the
+/// journal's.
 #[derive(Clone, Copy)]
 pub struct Area {
     /// The header's sector.

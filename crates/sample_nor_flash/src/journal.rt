@@ -1,6 +1,7 @@
-//! A sector is written anew by way of a copy in the spare one. The journal has an entry of four bytes for each time: two for
-//! the sector's number in the range, from 1 on, the lowest byte first; a mark that is not 0 once the copy is whole and
-//! counts; and one that is not 0 once the sector has it.
+//! A sector is written anew by way of a copy in the spare one. The journal has an entry of four
+//! bytes for each time: two for the sector's number in the range, from 1 on, the lowest byte first;
+//! a mark that is not 0 once the copy is whole and counts; and one that is not 0 once the sector
+//! has it.
 
 ghost use Rattle.std.specs.Prelude.{◌+◌, ◌^◌, ◌<◌, OnOk, IfOk};
 ghost use Rattle.std.specs.Bool.{OnTrue};
@@ -16,7 +17,8 @@ use flash_session::Failed;
 /// How many entries it has.
 const ENTRIES: u32 = SECTOR / 4;
 
-/// A mark that is set, and the label of a header's sector that was written anew: a copy is never blank.
+/// A mark that is set, and the label of a header's sector that was written anew: a copy is never
+/// blank.
 const SET: u8 = 0xff;
 
 /// Sectors that an entry has numbers for.
@@ -101,7 +103,8 @@ fn restore<N: Nor>(part: &mut N, area: Area, k: u32, entry: u64) -> Result<(), F
     lay_fresh(part, entry + 3, &[SET])
 }
 
-/// What a stop left half done is done: a sector whose copy counts gets it. A blank spare sector is no copy.
+/// What a stop left half done is done: a sector whose copy counts gets it. A blank spare sector is
+/// no copy.
 pub fn recover<N: Nor>(part: &mut N, area: Area) -> Result<(), Failed> {
     let found = look(part, area)?;
     if found.open == 0 {
@@ -115,8 +118,8 @@ pub fn recover<N: Nor>(part: &mut N, area: Area) -> Result<(), Failed> {
     lay_fresh(part, entry + 3, &[SET])
 }
 
-/// Where the next entry of the journal lies, once the spare sector is erased. A full journal is erased after it: whatever a
-/// stop leaves of that, no copy counts.
+/// Where the next entry of the journal lies, once the spare sector is erased. A full journal is
+/// erased after it: whatever a stop leaves of that, no copy counts.
 fn next_entry<N: Nor>(part: &mut N, area: Area) -> Result<u64, Failed>
     ensures { IfOk result (λ entry. entry < 2 ^ 48) }
 {
@@ -156,7 +159,8 @@ pub fn write_anew<N: Nor>(
     restore(part, area, k, entry)
 }
 
-/// Closes a header: its sector is erased, by way of a copy that has nothing but its first byte, which lies before the range.
+/// Closes a header: its sector is erased, by way of a copy that has nothing but its first byte,
+/// which lies before the range.
 pub fn close_header<N: Nor>(part: &mut N, area: Area) -> Result<(), Failed> {
     let entry = next_entry(part, area)?;
     lay_fresh(part, start_of(area.spare()), &[SET])?;

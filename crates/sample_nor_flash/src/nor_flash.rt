@@ -36,12 +36,18 @@ impl<N: Nor + Drop> Model for NorFlash<N> {
 
     ghost Value = { InNor N };
 
-    ghost view = { λ f. record { part = f.part; size = f.ranges.size; faults = f.failed; small = f.small } };
+    ghost view = { λ f. record {
+      part = f.part;
+      size = f.ranges.size;
+      faults = f.failed;
+      small = f.small;
+    } };
 }
 
 impl<N: Nor + Drop> NorFlash<N> {
-    /// So many ranges of `span` bytes, one after the other, in the sectors of the part from its first on, of which each takes
-    /// `sectors_of(span)`. None where a range is shorter than 24,640 bytes or has more than 65,535 sectors, or the part has not as many.
+    /// So many ranges of `span` bytes, one after the other, in the sectors of the part from its
+    /// first on, of which each takes `sectors_of(span)`. None where a range is shorter than 24,640
+    /// bytes or has more than 65,535 sectors, or the part has not as many.
     pub fn over(part: N, span: u32, ranges: u32) -> Option<Self>
         ensures made { IfSome result (λ f. (f.part ≡ part) × (f.size ≡ span * ranges)) }
         ensures faults { IfSome result (λ f. f.faults ≡ 0) }
@@ -74,8 +80,8 @@ impl<N: Nor + Drop> NorFlash<N> {
     }
 }
 
-/// The sectors of the range that has a place, and the place counted from the first of them. None where so many bytes from there
-/// are not in one range.
+/// The sectors of the range that has a place, and the place counted from the first of them. None
+/// where so many bytes from there are not in one range.
 fn place_of(span: u32, at: u32, len: usize) -> Option<(Area, u64)> {
     let range = at.checked_div(span)?;
     let place = at - range * span;
@@ -90,8 +96,8 @@ fn place_of(span: u32, at: u32, len: usize) -> Option<(Area, u64)> {
     Some((area, FIRST as u64 + place as u64))
 }
 
-/// Lays a piece of one page, and writes its sector anew where a bit has to rise for it. A header that is closed loses the
-/// setup after it, which nothing reads then.
+/// Lays a piece of one page, and writes its sector anew where a bit has to rise for it. A header
+/// that is closed loses the setup after it, which nothing reads then.
 fn put_page<N: Nor>(part: &mut N, area: Area, at: u64, piece: &[u8]) -> Result<(), Failed> {
     if piece.len() > PAGE {
         return Err(Failed);

@@ -41,7 +41,8 @@ pub fn fetch<N: Nor>(part: &mut N, at: u64, buf: &mut [u8]) -> Result<(), Failed
     Ok(())
 }
 
-/// Lays a piece of at most 256 bytes, turned, where no bit has to rise for it. Else false, and nothing is written.
+/// Lays a piece of at most 256 bytes, turned, where no bit has to rise for it. Else false, and
+/// nothing is written.
 pub fn lay<N: Nor>(part: &mut N, at: u64, piece: &[u8]) -> Result<bool, Failed>
     requires { length piece.now ≤ 256 }
     ensures laid { IfOk result (λ done. OnTrue done
