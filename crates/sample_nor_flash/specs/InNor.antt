@@ -1,0 +1,20 @@
+-- A driver over a part, of whose bytes nothing is told.
+use Rattle.std.specs.Prelude.{ℕ, ◌^◌, ◌<◌}
+use Rattle.flash_session.specs.Seen.{FlashSeen}
+
+-- the part, how many bytes its ranges have, and how many of its calls failed
+pub record InNor (N : Type 0) : Type 0 where
+  pub part : N
+  pub size : ℕ
+  pub faults : ℕ
+  pub small : size < 2 ^ 32
+
+-- no content is told, so of what it holds and of what a stop leaves nothing is said
+abbrev pub nor_seen : {N : Type 0} → InNor N → FlashSeen
+nor_seen {N} flash = record {
+  holds = λ c. ⊥;
+  since = λ t c. ⊥;
+  moment = 0;
+  faults = flash.faults;
+  room = flash.size;
+}
