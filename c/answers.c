@@ -236,6 +236,57 @@ static int device_outlasts(void) {
     return 0;
 }
 
+/* A device ends in the middle of a file, and another is restored with its flash: its session goes on. Without power it
+ * takes nothing, and a flash with something else in it is refused. */
+static int device_in_flash(void) {
+    enum { SPAN = 24640 + 4096, FLASH = 4 * SPAN };
+    static const uint8_t setup[11] = {0x02, 0x00, 0x03, 0x00, 0x02, 0x00, 0x01, 0x07, 0x00, 0x00, 0x00};
+    static const uint8_t rows[3][5] = {
+        {0x08, 0x01, 0x00, 0x11, 0x22}, {0x08, 0x02, 0x00, 0x33, 0x44}, {0x08, 0x03, 0x00, 0x55, 0x00}};
+    static uint8_t flash[FLASH];
+    fuota_device device = FUOTA_DEVICE_NONE;
+    fuota_config config = {.hw = 1, .area = 64, .rows = 4, .formats = 2, .sessions = 1, .groups = 1,
+                           .is_class_c = true};
+    fuota_arrival arrival = {.t = 1000};
+    fuota_view view = {0};
+    uint8_t saved[FUOTA_SAVED_DEVICE], bytes[8];
+    int i;
+    SO(fuota_device_power(&device) == FUOTA_NO_OBJECT && fuota_device_flash(&device, 0, flash, FLASH) == 0);
+    SO(fuota_device_new(&device, &config) == FUOTA_DONE && fuota_device_power(&device) == FUOTA_NOTHING);
+    SO(fuota_device_flash(&device, 0, flash, FLASH) == 0);
+    SO(fuota_device_new_in_flash(&device, &config, SPAN, flash, FLASH - 1) == FUOTA_RANGE && device.at == NULL);
+    SO(fuota_device_new_in_flash(&device, &config, 24639, flash, FLASH) == FUOTA_RANGE);
+    SO(fuota_device_new_in_flash(&device, &config, SPAN, NULL, 0) == FUOTA_RANGE);
+    SO(fuota_device_new_in_flash(&device, &config, SPAN, flash, FLASH) == FUOTA_DONE);
+    SO(fuota_device_deliver(&device, 201, setup, sizeof setup, &arrival) == FUOTA_DOWN);
+    SO(fuota_device_radio(&device, zeros, 20, 1000, 1, 1) == FUOTA_DOWN);
+    SO(fuota_device_power(&device) == FUOTA_DONE);
+    SO(fuota_device_deliver(&device, 201, setup, sizeof setup, &arrival) == FUOTA_DONE);
+    for (i = 0; i < 3; i++) {
+        arrival.mark = (uint64_t)i + 1;
+        SO(fuota_device_deliver(&device, 201, rows[i], 5, &arrival) == FUOTA_DONE);
+        SO(fuota_device_save(&device, saved, sizeof saved) == sizeof saved);
+        SO(fuota_device_flash(&device, 0, flash, FLASH) == FLASH);
+        SO(fuota_device_firmware(&device, true, 0, bytes, 8) == (i == 2 ? 5 : 0));
+        SO(fuota_device_restore_in_flash(&device, &config, SPAN, flash, FLASH, saved, sizeof saved, NULL, 0, bytes,
+                                         i == 2 ? 5 : 0) == FUOTA_DONE);
+        SO(fuota_device_view(&device, 0, &view) == FUOTA_NOTHING);
+        SO(fuota_device_power(&device) == FUOTA_DONE && fuota_device_power(&device) == FUOTA_DONE);
+        SO(fuota_device_view(&device, 0, &view) == FUOTA_DONE && view.received == i + 1 && view.missing == 2 - i);
+    }
+    SO(view.verdict == FUOTA_COMPLETE && view.mark == 3);
+    SO(fuota_device_file(&device, 0, 0, bytes, 8) == 5 && !memcmp(bytes, FILE_BYTES, 5));
+    SO(fuota_device_flash(&device, FLASH - 2, bytes, 8) == 2 && fuota_device_flash(&device, FLASH, bytes, 8) == 0);
+    flash[65] = 0; /* a closed gate before an open one */
+    SO(fuota_device_restore_in_flash(&device, &config, SPAN, flash, FLASH, saved, sizeof saved, NULL, 0, bytes, 4) ==
+       FUOTA_CORRUPT);
+    SO(fuota_device_new_in_flash(&device, &config, SPAN, flash, FLASH) == FUOTA_DONE);
+    SO(fuota_device_power(&device) == FUOTA_FLASH);
+    SO(fuota_device_deliver(&device, 201, setup, sizeof setup, &arrival) == FUOTA_DOWN);
+    fuota_device_free(&device);
+    return 0;
+}
+
 static int server_answers(const uint8_t *image, size_t length) {
     fuota_server server = FUOTA_SERVER_NONE;
     fuota_plan plan = {.frag_size = 13, .parity = 1};
@@ -381,5 +432,5 @@ int main(int argc, char **argv) {
     if (length != 52)
         return 2;
     return without_objects() || receiver_answers() || receiver_sizes() || device_answers() || device_outlasts()
-        || server_answers(image, length) || server_outlasts(image, length) || decode_answers();
+        || device_in_flash() || server_answers(image, length) || server_outlasts(image, length) || decode_answers();
 }

@@ -53,7 +53,9 @@ enum fuota_answer {
     FUOTA_FULL = 8,      /* the device would hold more than 8 uplinks; nothing acted */
     FUOTA_SPENT = 9,     /* the frame counts of the group are spent; nothing changed */
     FUOTA_CORRUPT = 10,  /* the saved bytes are of no object that is so set up */
-    FUOTA_FOREIGN = 11   /* the bytes are no frame of the group that the device hears */
+    FUOTA_FOREIGN = 11,  /* the bytes are no frame of the group that the device hears */
+    FUOTA_DOWN = 12,     /* the sessions of the device are down until it gets power; nothing changed */
+    FUOTA_FLASH = 13     /* the flash has something at a session's place that is no session's */
 };
 
 /* A value of enum fuota_answer. */
@@ -183,16 +185,16 @@ fuota_result fuota_device_new(fuota_device *handle, const fuota_config *config);
 void fuota_device_free(fuota_device *handle);
 
 /* A payload comes: FUOTA_DONE, where its commands acted; FUOTA_DEAF, FUOTA_REFUSED, FUOTA_FULL, where they did not,
- * which is counted; FUOTA_RANGE at more than 242 bytes, and at a `t` out of range; FUOTA_NO_OBJECT. A reboot that is
- * due at `t` is carried out before the payload and after it, also where its commands do not act, but not at
- * FUOTA_RANGE. */
+ * which is counted; FUOTA_DOWN where its sessions are; FUOTA_RANGE at more than 242 bytes, and at a `t` out of range;
+ * FUOTA_NO_OBJECT. A reboot that is due at `t` is carried out before the payload and after it, also where its commands
+ * do not act, but not at FUOTA_DOWN and FUOTA_RANGE. */
 fuota_result fuota_device_deliver(fuota_device *handle, uint8_t port, const uint8_t *payload, size_t length,
                                   const fuota_arrival *arrival);
 
 /* Bytes that its radio heard come at `t` ms of true time, with 32 random bits and the caller's own mark. A multicast
  * frame of the group that is heard is answered as its payload by fuota_device_deliver; FUOTA_FOREIGN at other bytes,
- * which are counted as deaf; FUOTA_RANGE at a `t` out of range; FUOTA_NO_OBJECT. A reboot that is due at `t` is
- * carried out, but not at FUOTA_RANGE. */
+ * which are counted as deaf; FUOTA_DOWN where its sessions are; FUOTA_RANGE at a `t` out of range; FUOTA_NO_OBJECT. A
+ * reboot that is due at `t` is carried out, but not at FUOTA_DOWN and FUOTA_RANGE. */
 fuota_result fuota_device_radio(fuota_device *handle, const uint8_t *bytes, size_t length, uint64_t t,
                                 uint32_t word, uint64_t mark);
 
@@ -204,8 +206,8 @@ fuota_result fuota_device_wake(fuota_device *handle, uint64_t t);
 /* Takes the oldest uplink that is held: FUOTA_DONE; FUOTA_NOTHING where none is; FUOTA_NO_OBJECT. */
 fuota_result fuota_device_take_uplink(fuota_device *handle, fuota_uplink *out);
 
-/* What the session of an index, 0 to 3, shows: FUOTA_DONE; FUOTA_NOTHING without a session; FUOTA_RANGE at another
- * index; FUOTA_NO_OBJECT. */
+/* What the session of an index, 0 to 3, shows: FUOTA_DONE; FUOTA_NOTHING without a session, and where they are down;
+ * FUOTA_RANGE at another index; FUOTA_NO_OBJECT. */
 fuota_result fuota_device_view(fuota_device *handle, uint8_t index, fuota_view *out);
 
 /* Copies bytes of the whole file of the session of an index, from the offset on, as many as there are and have room;
@@ -266,6 +268,33 @@ size_t fuota_device_firmware(fuota_device *handle, bool is_next, size_t offset, 
 fuota_result fuota_device_restore(fuota_device *handle, const fuota_config *config, const uint8_t *saved,
                                   size_t saved_length, const uint8_t *running, size_t running_length,
                                   const uint8_t *next, size_t next_length);
+
+/* ---- A device whose sessions are held in a flash ---- */
+
+/* Its flash is bytes of the library's own, at least four spans; C hands them in, and copies them out between two calls
+ * to keep them with what fuota_device_save gives, all or none of both. A device restored of them goes on in each
+ * session. A new flash is zeros; the least span is 24,640, and in one of FUOTA_LONGEST_SPAN each session fits. */
+#define FUOTA_LONGEST_SPAN 631573
+
+/* As fuota_device_new, of a device whose sessions are held in a flash of these bytes, each in `span` of them. They are
+ * down until fuota_device_power. FUOTA_RANGE also where the flash has no room for four spans. */
+fuota_result fuota_device_new_in_flash(fuota_device *handle, const fuota_config *config, uint32_t span,
+                                       const uint8_t *flash, size_t flash_length);
+
+/* As fuota_device_restore, of such a device. Its sessions are in the flash, and down until fuota_device_power. */
+fuota_result fuota_device_restore_in_flash(fuota_device *handle, const fuota_config *config, uint32_t span,
+                                           const uint8_t *flash, size_t flash_length, const uint8_t *saved,
+                                           size_t saved_length, const uint8_t *running, size_t running_length,
+                                           const uint8_t *next, size_t next_length);
+
+/* Opens the sessions that are held in the flash, and offers each file that is whole, and was not when the device was last
+ * up, to next: FUOTA_DONE; FUOTA_FLASH, and then they are down; FUOTA_NOTHING where sessions are in memory, and nothing
+ * changes; FUOTA_NO_OBJECT. */
+fuota_result fuota_device_power(fuota_device *handle);
+
+/* Copies bytes of the flash, from the offset on, as many as there are and have room; their count, 0 also where sessions
+ * are in memory and without a device. */
+size_t fuota_device_flash(fuota_device *handle, size_t offset, uint8_t *into, size_t room);
 
 /* ---- The server of a campaign ---- */
 
@@ -498,6 +527,25 @@ static inline fuota_result fuota_device_restore_0(fuota_device *handle, const fu
                                 running_length, fuota_from(next), next_length);
 }
 
+static inline fuota_result fuota_device_new_in_flash_0(fuota_device *handle, const fuota_config *config,
+                                                       uint32_t span, const uint8_t *flash, size_t flash_length) {
+    return fuota_device_new_in_flash(handle, config, span, fuota_from(flash), flash_length);
+}
+
+static inline fuota_result fuota_device_restore_in_flash_0(fuota_device *handle, const fuota_config *config,
+                                                           uint32_t span, const uint8_t *flash, size_t flash_length,
+                                                           const uint8_t *saved, size_t saved_length,
+                                                           const uint8_t *running, size_t running_length,
+                                                           const uint8_t *next, size_t next_length) {
+    return fuota_device_restore_in_flash(handle, config, span, fuota_from(flash), flash_length, fuota_from(saved),
+                                         saved_length, fuota_from(running), running_length, fuota_from(next),
+                                         next_length);
+}
+
+static inline size_t fuota_device_flash_0(fuota_device *handle, size_t offset, uint8_t *into, size_t room) {
+    return fuota_device_flash(handle, offset, fuota_into(into), room);
+}
+
 static inline fuota_result fuota_server_new_0(fuota_server *handle, const fuota_plan *plan,
                                               const fuota_plan_device *devices, size_t devices_length,
                                               const uint8_t *image, size_t image_length, uint8_t *field) {
@@ -542,6 +590,9 @@ static inline fuota_result fuota_decode_0(uint8_t port, bool up, const uint8_t *
 #define fuota_device_save fuota_device_save_0
 #define fuota_device_firmware fuota_device_firmware_0
 #define fuota_device_restore fuota_device_restore_0
+#define fuota_device_new_in_flash fuota_device_new_in_flash_0
+#define fuota_device_restore_in_flash fuota_device_restore_in_flash_0
+#define fuota_device_flash fuota_device_flash_0
 #define fuota_server_new fuota_server_new_0
 #define fuota_server_frame fuota_server_frame_0
 #define fuota_server_uplink fuota_server_uplink_0

@@ -20,7 +20,7 @@ U8, U16, U32, U64, SIZE, BOOL = (ctypes.c_uint8, ctypes.c_uint16, ctypes.c_uint3
 MAX_PAYLOAD = 242
 KEY = U8 * 16
 NO_RECEIVER = 255
-SAVED_DEVICE, SAVED_SERVER, MAX_FRAME = 492, 428, 255
+SAVED_DEVICE, SAVED_SERVER, MAX_FRAME, LONGEST_SPAN = 492, 428, 255, 631_573
 
 CALLS = """
 uint32_t fuota_version(void);
@@ -46,6 +46,10 @@ uint8_t fuota_device_raise(fuota_device *);
 size_t fuota_device_save(fuota_device *, uint8_t *, size_t);
 size_t fuota_device_firmware(fuota_device *, bool, size_t, uint8_t *, size_t);
 uint8_t fuota_device_restore(fuota_device *, const fuota_config *, const uint8_t *, size_t, const uint8_t *, size_t, const uint8_t *, size_t);
+uint8_t fuota_device_new_in_flash(fuota_device *, const fuota_config *, uint32_t, const uint8_t *, size_t);
+uint8_t fuota_device_restore_in_flash(fuota_device *, const fuota_config *, uint32_t, const uint8_t *, size_t, const uint8_t *, size_t, const uint8_t *, size_t, const uint8_t *, size_t);
+uint8_t fuota_device_power(fuota_device *);
+size_t fuota_device_flash(fuota_device *, size_t, uint8_t *, size_t);
 uint8_t fuota_server_new(fuota_server *, const fuota_plan *, const fuota_plan_device *, size_t, const uint8_t *, size_t, uint8_t *);
 void fuota_server_free(fuota_server *);
 uint8_t fuota_server_next_fragment(fuota_server *, fuota_down *);
@@ -67,7 +71,7 @@ uint8_t fuota_decode(uint8_t, bool, const uint8_t *, size_t, uint8_t *, size_t, 
 class Answer(enum.IntEnum):
     """What a call answers, where it says nothing else."""
 
-    DONE, NOTHING, NO_OBJECT, RANGE, NO_ROOM, NO_MEMORY, REFUSED, DEAF, FULL, SPENT, CORRUPT, FOREIGN = range(12)
+    DONE, NOTHING, NO_OBJECT, RANGE, NO_ROOM, NO_MEMORY, REFUSED, DEAF, FULL, SPENT, CORRUPT, FOREIGN, DOWN, FLASH = range(14)
 
 
 class Verdict(enum.IntEnum):
@@ -206,8 +210,21 @@ class Foreign(Error):
     answer = Answer.FOREIGN
 
 
+class NoPower(Error):
+    """The sessions of the device are down until it gets power."""
+
+    answer = Answer.DOWN
+
+
+class BadFlash(Error):
+    """The flash has something at a session's place that is no session's."""
+
+    answer = Answer.FLASH
+
+
 ERRORS = {kind.answer: kind
-          for kind in (NoObject, OutOfRange, NoRoom, NoMemory, Refused, Deaf, Full, Spent, Corrupt, Foreign)}
+          for kind in (NoObject, OutOfRange, NoRoom, NoMemory, Refused, Deaf, Full, Spent, Corrupt, Foreign,
+                       NoPower, BadFlash)}
 
 
 # ---- Structs
@@ -480,23 +497,37 @@ class Receiver(Object):
 
 
 class Device(Object):
-    """A device of all four packages, of a `Config`."""
+    """A device of all four packages, of a `Config`. With a flash, of at least four spans, its sessions are held there, and are
+    down until `power`; a new flash is zeros."""
 
     kind = "device"
 
-    def __init__(self, config, library=None):
+    def __init__(self, config, library=None, flash=None, span=LONGEST_SPAN):
         super().__init__(library)
-        self.area = config.area
-        self.done("new", ctypes.byref(config))
+        self.begin("new", config, flash, span)
 
     @classmethod
-    def restore(cls, config, saved, running=b"", following=b"", library=None):
+    def restore(cls, config, saved, running=b"", following=b"", library=None, flash=None, span=LONGEST_SPAN):
         """The device that saved these bytes, with the files that ran and that was received to run next."""
         device = cls.__new__(cls)
         Object.__init__(device, library)
-        device.area = config.area
-        device.done("restore", ctypes.byref(config), *held(saved), *held(running), *held(following))
+        device.begin("restore", config, flash, span, *held(saved), *held(running), *held(following))
         return device
+
+    def begin(self, name, config, flash, span, *words):
+        self.area, self.size = config.area, 0 if flash is None else len(flash)
+        if flash is None:
+            self.done(name, ctypes.byref(config), *words)
+        else:
+            self.done(f"{name}_in_flash", ctypes.byref(config), span, *held(flash), *words)
+
+    def power(self):
+        """Opens the sessions that are held in its flash."""
+        self.done("power")
+
+    def flash(self):
+        """The bytes of its flash, to be kept with those of `save`."""
+        return self.copied("flash", self.size, 0)
 
     def deliver(self, port, payload, t, mark=0, word=0, group=None):
         """Brings a payload at `t` ms of true time; `group` is a pair of address and frame count, or None by unicast."""

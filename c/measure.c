@@ -15,7 +15,7 @@
 
 enum { STACK = 1 << 18, PAINT = 0xA5 };
 
-static uint8_t stack[STACK], image[262144], small[12288], file[262144];
+static uint8_t stack[STACK], image[262144], small[12288], file[262144], flash[4 * FUOTA_LONGEST_SPAN];
 static size_t image_length, small_length, saved_length, kept_length, file_length;
 static ucontext_t here, there;
 
@@ -73,6 +73,15 @@ static void device_firmware(void) { file_length = fuota_device_firmware(&device,
 static void device_restore(void) {
     answer = fuota_device_restore(&device, &config, kept, kept_length, kept, 0, file, file_length);
 }
+static void device_new_in_flash(void) {
+    answer = fuota_device_new_in_flash(&device, &config, FUOTA_LONGEST_SPAN, flash, sizeof flash);
+}
+static void device_restore_in_flash(void) {
+    answer = fuota_device_restore_in_flash(&device, &config, FUOTA_LONGEST_SPAN, flash, sizeof flash, kept, kept_length,
+                                           kept, 0, file, file_length);
+}
+static void device_power(void) { answer = fuota_device_power(&device); }
+static void device_flash(void) { fuota_device_flash(&device, 0, flash, sizeof flash); }
 static void server_new(void) {
     answer = fuota_server_new(&server, &plan, devices, 1, image, image_length, &field);
 }
@@ -112,6 +121,8 @@ static call calls[] = {
     {device_take_uplink, "device_take_uplink", 0},
     {device_view, "device_view", 0}, {device_file, "device_file", 0}, {device_running, "device_running", 0},
     {device_save, "device_save", 0}, {device_firmware, "device_firmware", 0}, {device_restore, "device_restore", 0},
+    {device_new_in_flash, "device_new_in_flash", 0}, {device_restore_in_flash, "device_restore_in_flash", 0},
+    {device_power, "device_power", 0}, {device_flash, "device_flash", 0},
     {server_new, "server_new", 0}, {server_free, "server_free", 0}, {server_next_fragment, "server_next_fragment", 0},
     {server_status_all, "server_status_all", 0}, {server_ask, "server_ask", 0}, {server_uplink, "server_uplink", 0},
     {server_ledger, "server_ledger", 0}, {server_save, "server_save", 0}, {server_restore, "server_restore", 0},
@@ -206,6 +217,13 @@ static void play(int campaign) {
     made(device_save);
     made(device_firmware);
     made(device_restore);
+    made(device_new_in_flash);
+    made(device_power);
+    made(device_deliver);
+    made(device_save);
+    made(device_flash);
+    made(device_restore_in_flash);
+    made(device_power);
     printf("campaign %d: verdict %d, %d pieces missing, the longest deliver is number %d: %.3f ms\n", campaign,
            view.verdict, view.missing, longest_at, longest / 1e6);
     made(server_free);

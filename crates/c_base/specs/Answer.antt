@@ -47,6 +47,14 @@ corrupt = 10
 abbrev pub foreign : ℕ
 foreign = 11
 
+-- the sessions of a device are down until it gets power
+abbrev pub down : ℕ
+down = 12
+
+-- a flash has something at a session's place that is no session's
+abbrev pub flash : ℕ
+flash = 13
+
 -- where a call answers bits of a refusal, and there is no receiver
 abbrev pub no_receiver : ℕ
 no_receiver = 255

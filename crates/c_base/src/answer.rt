@@ -24,6 +24,10 @@ pub const SPENT: u8 = 9;
 pub const CORRUPT: u8 = 10;
 /// The bytes are no frame of the group that the device hears.
 pub const FOREIGN: u8 = 11;
+/// The sessions of the device are down until it gets power; nothing changed.
+pub const DOWN: u8 = 12;
+/// The flash has something at a session's place that is no session's.
+pub const FLASH: u8 = 13;
 
 /// Where a call answers bits of a refusal, and there is no receiver.
 pub const NO_RECEIVER: u8 = 255;

@@ -79,8 +79,9 @@ pub fn is_config(config: &DeviceConfig) -> bool
         && (1 <= config.area && config.area <= MAX_AREA)
 }
 
-/// Whether the sessions that are held have ranges that are long enough, and lie within so many bytes of flash.
-pub(crate) fn has_ranges(config: &DeviceConfig, room: u32) -> bool
+/// Whether a flash of so many bytes has room for the sessions that are held: four ranges of the span, each long enough for
+/// a session. So it is where none is held.
+pub fn has_ranges(config: &DeviceConfig, room: u32) -> bool
     ensures { result ≡ has_ranges config.now room }
 {
     if config.held {

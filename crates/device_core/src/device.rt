@@ -281,6 +281,13 @@ impl<F: Flash + Drop> Device<F> {
         self.sessions.is_down()
     }
 
+    /// The flash that it was made with.
+    pub fn flash(&self) -> &F
+        ensures { result.now ≡ self.now.sessions.flash }
+    {
+        self.sessions.flash()
+    }
+
     /// Gives the flash back.
     pub fn close(self) -> F
         ensures { result ≡ self.sessions.flash }

@@ -34,7 +34,7 @@ mod uplink;
 
 pub use arrival::Arrival;
 pub use class_session::{ClassSession, Kind};
-pub use config::{Class, DeviceConfig, MAX_AREA, MAX_ROWS, ReserveError, is_config};
+pub use config::{Class, DeviceConfig, MAX_AREA, MAX_ROWS, ReserveError, has_ranges, is_config};
 pub use counts::Counts;
 pub use delivered::{Aired, Delivered, OutboxFull};
 pub use device::Device;

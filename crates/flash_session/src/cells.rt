@@ -29,6 +29,22 @@ impl CellFlash {
         let cells = vec![in alloc; 0u8; size as usize]?;
         Ok(CellFlash { cells })
     }
+
+    /// Cells with these bytes, fewer than 2^32.
+    pub fn of_bytes(alloc: Global, bytes: &[u8]) -> Result<Self, AllocError>
+        requires { length bytes.now < 2 ^ 32 }
+        ensures { IfOk result (λ f. f.bytes ≡ bytes.now) }
+    {
+        let cells = bytes.to_vec(alloc)?;
+        Ok(CellFlash { cells })
+    }
+
+    /// The bytes that it has now.
+    pub fn bytes(&self) -> &[u8]
+        ensures { result.now ≡ self.now.bytes }
+    {
+        self.cells.as_slice()
+    }
 }
 
 impl Flash for CellFlash {

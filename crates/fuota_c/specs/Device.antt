@@ -1,15 +1,13 @@
 -- What the calls of a device do for C.
-use Rattle.std.specs.Prelude.{◌≡◌, ◌⊎◌, ◌≤◌, ◌<◌, ℕ, Bool, true, false, not, IsTrue, List, [], ◌∷◌, length, Option, Some, None, Result, Ok, Err}
+use Rattle.std.specs.Prelude.{◌≡◌, ◌≢◌, ◌⊎◌, ◌≤◌, ◌<◌, ℕ, Bool, true, false, not, IsTrue, List, [], ◌∷◌, length, Option, Some, None, Result, Ok, Err}
 use Rattle.wire_base.specs.Payload.{max_payload}
 use Rattle.package_grammar.specs.declared.downlink.To.{To}
 use Rattle.package_grammar.specs.declared.downlink.To.TheVariants.{Unicast, Group}
 use Rattle.package_grammar.specs.declared.downlink.Downlink.{Downlink}
 use Rattle.frag_session.specs.Session.{view_of}
-use Rattle.mc_keys.specs.declared.root_kind.RootKind.{RootKind}
-use Rattle.mc_keys.specs.declared.root_kind.RootKind.TheVariants.{V10, V11}
-use Rattle.device_core.specs.declared.config.Class.{Class}
-use Rattle.device_core.specs.declared.config.Class.TheVariants.{A, C}
 use Rattle.device_core.specs.declared.config.DeviceConfig.{DeviceConfig}
+use Rattle.device_core.specs.declared.config.ReserveError.{ReserveError}
+use Rattle.device_core.specs.declared.config.ReserveError.TheVariants as reserve
 use Rattle.device_core.specs.declared.delivered.Delivered.{Delivered}
 use Rattle.device_core.specs.declared.delivered.Delivered.TheVariants as delivered
 use Rattle.device_core.specs.declared.delivered.Aired.{Aired}
@@ -17,14 +15,17 @@ use Rattle.device_core.specs.declared.delivered.Aired.TheVariants.{Foreign, Hear
 use Rattle.device_core.specs.declared.delivered.OutboxFull.{OutboxFull}
 use Rattle.device_core.specs.declared.uplink.Uplink.{Uplink}
 use Rattle.device_core.specs.SessionTable.{session_at}
-use Rattle.device_core.specs.Device.{DeviceState, first_device, is_config, max_moment, max_sessions}
+use Rattle.device_core.specs.Device.{DeviceState, max_moment, max_sessions}
 use Rattle.device_core.specs.Deliver.{Outcome, delivery, waking, taking}
 use Rattle.device_core.specs.Radio.{radio}
-use Rattle.flash_session.specs.Flashes.{Cells}
-use Rattle.device_core.specs.HeldDevice.{HeldDevice, DeviceStands, Becomes, Makes}
-use Rattle.c_base.specs.Answer.{done, nothing, range, no_memory, no_object, refused, deaf, full, foreign}
+use Rattle.flash_session.specs.Seen.{FlashSeen}
+use Rattle.flash_session.specs.Flashes.{Cells, cells_seen}
+use Rattle.device_core.specs.HeldCalls.{StaysStored}
+use Rattle.device_core.specs.HeldDevice.{HeldDevice, DeviceStands, Starts, Becomes, Makes}
+use Rattle.device_core.specs.HeldSessions.{IsUp, IsDown}
+use Rattle.c_base.specs.Answer.{done, nothing, range, no_memory, refused, deaf, full, foreign, down, flash}
 use Rattle.c_base.specs.Bytes.{IsPut, Copied}
-use Rattle.fuota_c.specs.declared.device.ConfigFields.{ConfigFields}
+use Rattle.fuota_c.specs.Config.{fits}
 use Rattle.fuota_c.specs.declared.device.ArrivalFields.{ArrivalFields}
 use Rattle.fuota_c.specs.declared.device.UplinkFields.{UplinkFields}
 use Rattle.fuota_c.specs.declared.shown.ViewFields.{ViewFields}
@@ -32,40 +33,22 @@ use Rattle.fuota_c.specs.Shown.{IsShown, file_or_none}
 
 -- ---- a new device
 
-abbrev pub class_of : (is_class_c : Bool) → Class
-class_of true = C
-class_of false = A
+-- a device at its start, over a flash of these bytes
+pub record IsFirst (config : DeviceConfig) (bytes : List ℕ) (x : HeldDevice Cells) : Type 0 where
+  pub flash : x.sessions.flash.bytes ≡ bytes
+  pub starts : Starts config x.sessions.flash x
 
-abbrev pub root_of : (is_v11 : Bool) → RootKind
-root_of true = V11
-root_of false = V10
+-- BadConfig comes exactly where a number of the configuration is out of its bounds, or the flash has no room
+abbrev pub IsMade : DeviceConfig → (bytes : List ℕ) → Result (HeldDevice Cells) ReserveError → Type 0
+IsMade config bytes (Ok x) = IsTrue (fits config bytes) × IsFirst config bytes x
+IsMade config bytes (Err reserve.BadConfig) = IsTrue (not (fits config bytes))
+IsMade config bytes (Err reserve.Memory) = IsTrue (fits config bytes)
 
-abbrev pub where_told : {X : Type 0} → (has : Bool) → X → Option X
-where_told true x = Some x
-where_told false x = None
-
-abbrev pub config_of : ConfigFields → DeviceConfig
-config_of fields = record {
-  class = class_of fields.is_class_c;
-  hw = fields.hw;
-  formats = fields.formats;
-  rows = fields.rows;
-  offset = fields.offset;
-  key = fields.key;
-  root = root_of fields.is_v11;
-  descriptor = where_told fields.has_descriptor fields.descriptor;
-  sessions = fields.sessions;
-  groups = fields.groups;
-  area = fields.area;
-  held = false;
-  span = 0;
-}
-
--- a device at its start; none where a number is out of its bounds, or memory was wanting
-abbrev pub IsNewDevice : DeviceConfig → Option (HeldDevice Cells) → (answer : ℕ) → Type 0
-IsNewDevice config (Some x) answer = (answer ≡ done) × IsTrue (is_config config) × DeviceStands x (first_device config)
-IsNewDevice config None answer =
-    ((answer ≡ range) × IsTrue (not (is_config config))) ⊎ ((answer ≡ no_memory) × IsTrue (is_config config))
+-- there is none where a number is out of its bounds, the flash has no room, or memory was missing
+abbrev pub IsNewDevice : DeviceConfig → (bytes : List ℕ) → Option (HeldDevice Cells) → (answer : ℕ) → Type 0
+IsNewDevice config bytes (Some x) answer = (answer ≡ done) × IsMade config bytes (Ok x)
+IsNewDevice config bytes None answer =
+    ((answer ≡ range) × IsMade config bytes (Err reserve.BadConfig)) ⊎ ((answer ≡ no_memory) × IsMade config bytes (Err reserve.Memory))
 
 -- ---- what comes
 
@@ -85,9 +68,9 @@ delivered_number delivered.Done = done
 delivered_number delivered.Deaf = deaf
 delivered_number (delivered.Refused refusal) = refused
 delivered_number (delivered.OutboxFull n) = full
--- sessions that are in memory alone give neither
-delivered_number delivered.FlashFault = no_object
-delivered_number delivered.Down = no_object
+delivered_number delivered.Down = down
+-- cells never fail
+delivered_number delivered.FlashFault = flash
 
 abbrev pub woken_number : Result (Unit {0}) OutboxFull → ℕ
 woken_number (Ok x) = done
@@ -97,17 +80,30 @@ woken_number (Err e) = full
 abbrev pub as_number : {A : Type 0} → (A → ℕ) → Outcome A → Outcome ℕ
 as_number number outcome = record { device = outcome.device; answer = number outcome.answer }
 
+-- what cells show
+abbrev pub seen_cells : Cells → FlashSeen
+seen_cells cells = cells_seen cells.bytes
+
+-- what a call makes of a device, and of the sessions in its flash; one that is down stays as it is
+pub record Serves (x y : HeldDevice Cells) (answer : ℕ) (call : DeviceState → Outcome ℕ) : Type 0 where
+  pub makes : Makes ℕ x y answer call
+  pub stored : StaysStored seen_cells x y (λ device. (call device).device)
+  pub is_down : answer ≡ down → IsDown x.sessions.state × (y ≡ x)
+  pub is_up : answer ≢ down → IsUp x.sessions.state
+
 -- a payload that a radio can bring, at a moment that a device knows, is delivered; any other changes nothing
 pub record DeliversOrNot (x y : HeldDevice Cells) (port : ℕ) (payload : List ℕ) (arrival : ArrivalFields) (answer : ℕ)
     : Type 0 where
-  pub delivers : length payload ≤ max_payload → arrival.t ≤ max_moment → Makes ℕ x y answer (λ device.
+  pub delivers : length payload ≤ max_payload → arrival.t ≤ max_moment → Serves x y answer (λ device.
       as_number delivered_number
       (delivery arrival.t arrival.word arrival.mark (downlink_of port payload arrival) device))
   pub long : max_payload < length payload → (answer ≡ range) × (y ≡ x)
   pub late : max_moment < arrival.t → (answer ≡ range) × (y ≡ x)
 
+-- its sessions are untouched, wherever they are
 pub record WakesOrNot (x y : HeldDevice Cells) (t : ℕ) (answer : ℕ) : Type 0 where
   pub wakes : t ≤ max_moment → Makes ℕ x y answer (λ device. as_number woken_number (waking t device))
+  pub untouched : y.sessions ≡ x.sessions
   pub late : max_moment < t → (answer ≡ range) × (y ≡ x)
 
 -- ---- what its radio heard
@@ -119,7 +115,7 @@ aired_number (Heard delivered) = delivered_number delivered
 
 -- bytes at a moment that a device knows come to it; at a later one nothing changes
 pub record HearsFrameOrNot (x y : HeldDevice Cells) (bytes : List ℕ) (t word mark answer : ℕ) : Type 0 where
-  pub hears : t ≤ max_moment → Makes ℕ x y answer (λ device. as_number aired_number (radio t word mark bytes device))
+  pub hears : t ≤ max_moment → Serves x y answer (λ device. as_number aired_number (radio t word mark bytes device))
   pub late : max_moment < t → (answer ≡ range) × (y ≡ x)
 
 -- ---- what goes
@@ -135,9 +131,10 @@ abbrev pub IsOldestOut : List Uplink → (old new : UplinkFields) → (answer : 
 IsOldestOut [] old new answer = (answer ≡ nothing) × (new ≡ old)
 IsOldestOut (uplink ∷ uplinks) old new answer = (answer ≡ done) × IsUplinkOut uplink old new
 
--- the oldest uplink is taken and written, if one is held
+-- the oldest uplink is taken and written, if one is held; the sessions are untouched, wherever they are
 pub record TakesUplink (x y : HeldDevice Cells) (old new : UplinkFields) (answer : ℕ) : Type 0 where
   pub taken : Becomes x y (λ device. (taking device).device)
+  pub untouched : y.sessions ≡ x.sessions
   pub out : IsOldestOut x.outbox old new answer
 
 -- ---- what is shown
@@ -145,10 +142,12 @@ pub record TakesUplink (x y : HeldDevice Cells) (old new : UplinkFields) (answer
 pub record IsSessionShown (x : HeldDevice Cells) (index : ℕ) (old new : ViewFields) (answer : ℕ) : Type 0 where
   pub shown : index < max_sessions → (device : DeviceState) → DeviceStands x device
       → IsShown (view_of (session_at device.sessions index)) old new answer
+  pub down : index < max_sessions → IsDown x.sessions.state → IsShown None old new answer
   pub beyond : max_sessions ≤ index → (answer ≡ range) × (new ≡ old)
 
 -- a window of the whole file of a session
 pub record IsSessionFile (x : HeldDevice Cells) (index offset : ℕ) (old new : List ℕ) (n : ℕ) : Type 0 where
   pub file : index < max_sessions → (device : DeviceState) → DeviceStands x device
       → Copied (file_or_none (view_of (session_at device.sessions index))) offset old new n
+  pub down : index < max_sessions → IsDown x.sessions.state → Copied [] offset old new n
   pub beyond : max_sessions ≤ index → (n ≡ 0) × (new ≡ old)

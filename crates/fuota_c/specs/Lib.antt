@@ -2,7 +2,9 @@ pub mod Held
 pub mod Shown
 pub mod Receiver
 pub mod Decoded
+pub mod Config
 pub mod Device
+pub mod Flash
 pub mod Saving
 pub mod Telling
 pub mod Version

@@ -1,23 +1,20 @@
 //! A device of all four packages.
 
-ghost use Rattle.std.specs.Prelude.{◌≡◌, ◌≤◌, false, not, None, length, IfOk, OnOk, IsErrOf, IsTrue};
+ghost use Rattle.std.specs.Prelude.{◌≡◌, ◌≤◌, None, [], length};
+ghost use Rattle.core.specs.Result.{result_map_both};
 ghost use Rattle.wire_base.specs.Payload.{max_payload};
-ghost use Rattle.device_core.specs.Device.{first_device, is_config};
-ghost use Rattle.device_core.specs.HeldDevice.{DeviceStands};
-ghost use Rattle.device_core.specs.declared.config.ReserveError.{ReserveError};
 ghost use Rattle.c_base.specs.Answer.{done, no_object};
 ghost use Rattle.c_base.specs.Calls.{Does, Tells};
-ghost use Rattle.fuota_c.specs.Device.{IsNewDevice, DeliversOrNot, WakesOrNot, TakesUplink, IsUplinkOut, IsSessionShown, IsSessionFile, config_of, downlink_of, delivered_number, root_of};
+ghost use Rattle.fuota_c.specs.Config.{config_of};
+ghost use Rattle.fuota_c.specs.Device.{IsNewDevice, IsMade, DeliversOrNot, WakesOrNot, TakesUplink, IsUplinkOut, IsSessionShown, IsSessionFile, downlink_of, delivered_number};
 
+use crate::config::{ConfigFields, config_of, fits};
 use crate::device_handle::DeviceHandle;
 use crate::shown::{ViewFields, file_in, show};
-use c_base::answer::{DEAF, DONE, FULL, NO_MEMORY, NO_OBJECT, NOTHING, RANGE, REFUSED};
+use c_base::answer::{DEAF, DONE, DOWN, FLASH, FULL, NO_MEMORY, NO_OBJECT, NOTHING, RANGE, REFUSED};
 use c_base::{copy_part, put_whole};
-use device_core::{
-    Class, Delivered, Device, DeviceConfig, OutboxFull, ReserveError, Uplink, is_config,
-};
+use device_core::{Delivered, Device, DeviceConfig, OutboxFull, ReserveError, Uplink};
 use flash_session::CellFlash;
-use mc_keys::RootKind;
 use package_grammar::{Downlink, To};
 use std::alloc::Global;
 use wire_base::{MAX_PAYLOAD, Payload};
@@ -27,27 +24,6 @@ const SESSIONS: u8 = 4;
 
 /// The last ms of true time at which a device is called.
 pub const MAX_MOMENT: u64 = 4_294_967_295_999;
-
-/// What a device is configured with, as `DeviceConfig` of `device_core` has it.
-#[repr(C)]
-#[derive(Drop)]
-pub struct ConfigFields {
-    pub hw: u32,
-    pub offset: u32,
-    pub area: u32,
-    /// The one descriptor that its sessions take, where `has_descriptor`.
-    pub descriptor: u32,
-    pub rows: u16,
-    pub formats: u8,
-    pub sessions: u8,
-    pub groups: u8,
-    pub has_descriptor: bool,
-    /// It always hears unicast payloads; else in the two windows after its uplink.
-    pub is_class_c: bool,
-    /// The key is AppKey of LoRaWAN 1.1; else GenAppKey of LoRaWAN 1.0.
-    pub is_v11: bool,
-    pub key: [u8; 16],
-}
 
 /// When and how a payload comes: `t` in ms of true time, a random word, the number at which a verdict is marked; by
 /// unicast, or by the multicast group with an address, with a frame count.
@@ -80,10 +56,17 @@ pub extern "C" fn fuota_device_new(
     alloc: Global,
     config: &ConfigFields,
 ) -> u8
-    ensures { IsNewDevice (config_of config.now) handle.new.held result }
+    ensures { IsNewDevice (config_of config.now) [] handle.new.held result }
+{
+    put_new(handle, alloc, config_of(config), &[])
+}
+
+/// Frees what was there, and puts a new device over a flash of these bytes into the handle.
+pub fn put_new(handle: &mut DeviceHandle, alloc: Global, config: DeviceConfig, bytes: &[u8]) -> u8
+    ensures { IsNewDevice config bytes.now handle.new.held result }
 {
     fuota_device_free(handle, alloc);
-    match boxed(alloc, config_of(config)) {
+    match boxed(alloc, config, bytes) {
         Ok(device) => {
             *handle = DeviceHandle::of(device);
             DONE
@@ -93,17 +76,17 @@ pub extern "C" fn fuota_device_new(
     }
 }
 
-fn boxed(alloc: Global, config: DeviceConfig) -> Result<Box<Device<CellFlash>>, ReserveError>
-    requires { config.held ≡ false }
-    ensures stands { IfOk result (λ b. DeviceStands b.value (first_device config)) }
-    ensures fits { OnOk result (IsTrue (is_config config)) }
-    ensures range { IsErrOf result ReserveError.BadConfig → IsTrue (not (is_config config)) }
-    ensures memory { IsErrOf result ReserveError.Memory → IsTrue (is_config config) }
+fn boxed(
+    alloc: Global,
+    config: DeviceConfig,
+    bytes: &[u8],
+) -> Result<Box<Device<CellFlash>>, ReserveError>
+    ensures { IsMade config bytes.now (result_map_both (λ b. b.value) (λ e. e) result) }
 {
-    if !is_config(&config) {
+    if !fits(&config, bytes) {
         return Err(ReserveError::BadConfig);
     }
-    let Ok(flash) = CellFlash::reserve(alloc, 0) else {
+    let Ok(flash) = CellFlash::of_bytes(alloc, bytes) else {
         return Err(ReserveError::Memory);
     };
     match Device::reserve(alloc, config, flash) {
@@ -115,43 +98,6 @@ fn boxed(alloc: Global, config: DeviceConfig) -> Result<Box<Device<CellFlash>>, 
     }
 }
 
-/// The configuration of these fields.
-pub fn config_of(fields: &ConfigFields) -> DeviceConfig
-    ensures { result ≡ config_of fields.now }
-{
-    let class = if fields.is_class_c {
-        Class::C
-    } else {
-        Class::A
-    };
-    let descriptor = if fields.has_descriptor {
-        Some(fields.descriptor)
-    } else {
-        None
-    };
-    DeviceConfig {
-        class,
-        hw: fields.hw,
-        formats: fields.formats,
-        rows: fields.rows,
-        offset: fields.offset,
-        key: fields.key,
-        root: root_of(fields.is_v11),
-        descriptor,
-        sessions: fields.sessions,
-        groups: fields.groups,
-        area: fields.area,
-        held: false,
-        span: 0,
-    }
-}
-
-fn root_of(is_v11: bool) -> RootKind
-    ensures { result ≡ root_of is_v11 }
-{
-    if is_v11 { RootKind::V11 } else { RootKind::V10 }
-}
-
 /// Frees the device, if there is one; the handle has none afterwards.
 #[unsafe(no_mangle)]
 pub extern "C" fn fuota_device_free(handle: &mut DeviceHandle, alloc: Global)
@@ -161,8 +107,8 @@ pub extern "C" fn fuota_device_free(handle: &mut DeviceHandle, alloc: Global)
     let _device = handle.take(alloc);
 }
 
-/// A payload comes: done, where its commands acted; deaf, refused or full, where they did not; out of range at more
-/// than 242 bytes and at a `t` of more than 4,294,967,295,999, where nothing changes.
+/// A payload comes: done, where its commands acted; deaf, refused or full, where they did not; down where its sessions are;
+/// out of range at more than 242 bytes and at a `t` of more than 4,294,967,295,999. Nothing changes at the last two.
 #[unsafe(no_mangle)]
 pub extern "C" fn fuota_device_deliver(
     handle: &mut DeviceHandle,
@@ -227,8 +173,9 @@ pub fn delivered_number(delivered: Delivered) -> u8
         Delivered::Deaf => DEAF,
         Delivered::Refused(_) => REFUSED,
         Delivered::OutboxFull(_) => FULL,
-        // Sessions that are in memory alone give neither.
-        Delivered::FlashFault | Delivered::Down => NO_OBJECT,
+        Delivered::Down => DOWN,
+        // Cells never fail.
+        Delivered::FlashFault => FLASH,
     }
 }
 

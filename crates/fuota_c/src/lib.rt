@@ -4,9 +4,11 @@
 //! numbers of the header. What C owes beyond the types stands in the header, `c/fuota.h`.
 #![tactic(auto)]
 
+mod config;
 mod decoding;
 mod device;
 mod device_handle;
+mod flash;
 mod radio;
 mod receiver;
 mod receiver_handle;

@@ -1,17 +1,18 @@
 //! A device outlasts its process: what it saves, the files of its slots, and the device that comes back of both.
 
-ghost use Rattle.std.specs.Prelude.{◌≡◌, false};
+ghost use Rattle.std.specs.Prelude.{◌≡◌, []};
 ghost use Rattle.core.specs.Result.{result_map_both};
 ghost use Rattle.c_base.specs.Bytes.{Copied};
 ghost use Rattle.c_base.specs.Calls.{Tells};
-ghost use Rattle.fuota_c.specs.Device.{config_of};
+ghost use Rattle.fuota_c.specs.Config.{config_of};
 ghost use Rattle.fuota_c.specs.Saving.{IsDeviceBack, IsRestored, SavesTo, slot_file};
 
-use crate::device::{ConfigFields, config_of, fuota_device_free};
+use crate::config::{ConfigFields, config_of, fits};
+use crate::device::fuota_device_free;
 use crate::device_handle::DeviceHandle;
 use c_base::answer::{CORRUPT, DONE, NO_MEMORY, RANGE};
 use c_base::{copy_part, put_whole};
-use device_core::{Device, DeviceConfig, RestoreError, is_config};
+use device_core::{Device, DeviceConfig, RestoreError};
 use flash_session::CellFlash;
 use std::alloc::Global;
 
@@ -90,11 +91,26 @@ pub extern "C" fn fuota_device_restore(
     running: &[u8],
     next: &[u8],
 ) -> u8
-    ensures { IsDeviceBack (config_of config.now) saved.now running.now next.now handle.new.held
-        result }
+    ensures { IsDeviceBack (config_of config.now) [] saved.now running.now next.now
+        handle.new.held result }
+{
+    put_back(handle, alloc, config_of(config), &[], saved, running, next)
+}
+
+/// Frees what was there, and puts the device that saved these bytes, over a flash of those, into the handle.
+pub fn put_back(
+    handle: &mut DeviceHandle,
+    alloc: Global,
+    config: DeviceConfig,
+    flash: &[u8],
+    saved: &[u8],
+    running: &[u8],
+    next: &[u8],
+) -> u8
+    ensures { IsDeviceBack config flash.now saved.now running.now next.now handle.new.held result }
 {
     fuota_device_free(handle, alloc);
-    match boxed(alloc, config_of(config), saved, running, next) {
+    match boxed(alloc, config, flash, saved, running, next) {
         Ok(device) => {
             *handle = DeviceHandle::of(device);
             DONE
@@ -108,15 +124,15 @@ pub extern "C" fn fuota_device_restore(
 fn boxed(
     alloc: Global,
     config: DeviceConfig,
+    flash: &[u8],
     saved: &[u8],
     running: &[u8],
     next: &[u8],
 ) -> Result<Box<Device<CellFlash>>, RestoreError>
-    requires { config.held ≡ false }
-    ensures { IsRestored config saved.now running.now next.now
+    ensures { IsRestored config flash.now saved.now running.now next.now
         (result_map_both (λ b. b.value) (λ e. e) result) }
 {
-    match restored(alloc, config, saved, running, next) {
+    match restored(alloc, config, flash, saved, running, next) {
         Err(error) => Err(error),
         Ok(device) => match Box::new(alloc, device) {
             Err(_) => Err(RestoreError::Memory),
@@ -128,18 +144,18 @@ fn boxed(
 fn restored(
     alloc: Global,
     config: DeviceConfig,
+    flash: &[u8],
     saved: &[u8],
     running: &[u8],
     next: &[u8],
 ) -> Result<Device<CellFlash>, RestoreError>
-    requires { config.held ≡ false }
-    ensures { IsRestored config saved.now running.now next.now result }
+    ensures { IsRestored config flash.now saved.now running.now next.now result }
 {
-    if !is_config(&config) {
+    if !fits(&config, flash) {
         return Err(RestoreError::BadConfig);
     }
-    let Ok(flash) = CellFlash::reserve(alloc, 0) else {
+    let Ok(cells) = CellFlash::of_bytes(alloc, flash) else {
         return Err(RestoreError::Memory);
     };
-    Device::restore(alloc, config, flash, saved, running, next)
+    Device::restore(alloc, config, cells, saved, running, next)
 }

@@ -111,6 +111,13 @@ impl<F: Flash + Drop> SessionStore<F> {
         !matches!(self.state, Some(State::Memory(_)))
     }
 
+    /// The flash, also where no session is held there.
+    pub fn flash(&self) -> &F
+        ensures { result.now ≡ self.now.flash }
+    {
+        &self.flash
+    }
+
     /// Gives the flash back.
     pub fn close(self) -> F
         ensures { result ≡ self.flash }
