@@ -1,4 +1,4 @@
--- Setups, fragments and answers of a session that are worked out (TS004-1.0.0).
+-- Setups, fragments and answers of a session, worked out (TS004-1.0.0).
 use Rattle.std.specs.Prelude.{◌≡◌, ℕ, true, false, List, [], ◌∷◌, replicate, Option, Some, None}
 use Rattle.frag_model.specs.Fragments.{Fragment}
 use Rattle.frag_model.specs.News.{is_new}
