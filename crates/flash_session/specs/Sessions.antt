@@ -1,4 +1,4 @@
--- When a session in flash stands for a history, and what lies in a range for one.
+-- When a session in flash stands for a history, and what is in a range for one.
 use Rattle.std.specs.Prelude.{◌≡◌, ℕ, ◌+◌, ◌*◌, ◌≤◌, min, List, [], ◌∷◌, length, Option, None, Some}
 use Rattle.frag_model.specs.Fragments.{Fragment}
 use Rattle.frag_model.specs.News.{news, MeanTheSame}
@@ -62,7 +62,7 @@ pub record IsOpenable (h : HeldSession) (s : Session) : Type 0 where
   pub hearable : AreHearable s.setup s.heard
   pub ranged : AllInRange (news (shape_of s) s.heard)
 
--- the session lies there, and can be opened: opening gives what stands for it
+-- the session is there, and can be opened: opening gives what stands for it
 pub record LiesFor (h : HeldSession) (s : Session) (c : List ℕ) : Type 0 where
   pub openable : IsOpenable h s
   pub body : List ℕ

@@ -1,4 +1,4 @@
-//! A flash that never fails, and of which no stop is told.
+//! A flash that never fails; what a stop leaves of it is not said.
 
 ghost use Rattle.std.specs.Prelude.{◌≡◌, ◌^◌, ◌<◌, length, IfOk, replicate};
 
@@ -22,7 +22,7 @@ impl Model for CellFlash {
 }
 
 impl CellFlash {
-    /// So many bytes, all 0.
+    /// Takes the memory of so many bytes, all 0.
     pub fn reserve(alloc: Global, size: u32) -> Result<Self, AllocError>
         ensures { IfOk result (λ f. f.bytes ≡ replicate size 0) }
     {

@@ -15,7 +15,7 @@ pub record GivesTurned (holds : List ℕ → Type 0) (at : ℕ) (buf : List ℕ)
 pub record OnlyFalls (cells : List ℕ) (at : ℕ) (piece : List ℕ) : Type 0 where
   pub falls : (i : ℕ) → i < length piece → bit_and (byte_at cells (at + i)) (get_or piece i 0) ≡ get_or piece i 0
 
--- of two lists of bytes the second has no bit that the first lacks
+-- the second of two lists of bytes has no bit that the first lacks
 pub record Falls (old new : List ℕ) : Type 0 where
   pub falls : (i : ℕ) → i < length new → bit_and (get_or old i 0) (get_or new i 0) ≡ get_or new i 0
 
