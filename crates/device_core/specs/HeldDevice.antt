@@ -1,4 +1,4 @@
--- What a device holds, for which records it stands, and what a call makes of both.
+-- What a device holds, for which records it stands, and what a call does to both.
 use Rattle.std.specs.Prelude.{◌≡◌, ℕ, ◌+◌, ◌≤◌, Bool, true, false, not, ◌&&◌, IsTrue, List, [], ◌∷◌, ◌++◌, map, length, Option, Some, None, Result, Ok, Err}
 use Rattle.clock_sync.specs.Clock.{Clock}
 use Rattle.mc_group.specs.declared.group.Group.{Group}
@@ -93,7 +93,7 @@ IsReserved config room flash (Err Memory) = IsTrue (can_reserve config room)
 
 -- ---- what a command makes
 
--- answers lie in the outbox after what was there
+-- answers are in the outbox after what was there
 abbrev pub held_with_answers : {F : Type 0} → HeldDevice F → List Answer → HeldDevice F
 held_with_answers held answers = record held {
   outbox = held.outbox ++ map uplink_of answers;

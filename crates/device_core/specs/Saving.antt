@@ -119,7 +119,7 @@ abbrev pub uplinks_bytes : List Uplink → List ℕ
 uplinks_bytes uplinks =
     length uplinks ∷ flat_map uplink_bytes uplinks ++ replicate (256 - 32 * length uplinks) 0
 
--- ---- the configuration, for the digest alone
+-- ---- the configuration, only for the digest
 
 abbrev pub class_byte : Class → ℕ
 class_byte class.A = 0
