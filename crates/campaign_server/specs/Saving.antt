@@ -28,7 +28,7 @@ use Rattle.campaign_server.specs.Plan.{Plan, bad_field}
 use Rattle.campaign_server.specs.Server.{ServerState, IsCount}
 use Rattle.campaign_server.specs.Fragments.{last_fragment}
 
--- ---- the plan, for the digest alone
+-- ---- the plan, only for the digest
 
 abbrev pub group_bytes : Option PlanGroup → List ℕ
 group_bytes None = 0 ∷ []
