@@ -12,7 +12,7 @@ pub fn entries_fit_frames()
         → length item.payload ≤ max_payload }
 {}
 
-/// Lines and what they are.
+/// Lines and what they are, worked out.
 pub fn worked_entries()
     ensures entries { WorkedEntries }
     ensures refusals { WorkedRefusals }

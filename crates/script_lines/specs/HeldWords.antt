@@ -1,4 +1,4 @@
--- What is known of the words of a line of which a part is read.
+-- What is known of the words of a line of which a part was read.
 use Rattle.std.specs.Prelude.{◌≡◌, ℕ, List, [], ◌∷◌, ◌++◌, codes, Option, Some, None}
 use Rattle.script_lines.specs.Lines.{words_of}
 use Rattle.script_lines.specs.Numbers.{decimal_of}
