@@ -38,7 +38,7 @@ PairBecomes old new after = (pair : PairState) → PairStands old pair → PairS
 abbrev pub PairKeepsEnds : (old new : HeldPair) → Type 0
 PairKeepsEnds old new = (pair : PairState) → PairStands old pair → EndsStand new.a pair.a × EndsStand new.b pair.b
 
--- the answer to a line: it was taken, or it is the first refused line with its first cause, or memory was wanting
+-- the answer to a line: it was taken, or it is the first refused line with its first cause, or memory was missing
 abbrev pub IsPairAnswer : PairState → (line : List ℕ) → (new : HeldPair) → Result (Unit {0}) LineError → Type 0
 IsPairAnswer pair line new (Ok done) = (pair_cause_of pair line ≡ None) × PairStands new (after_pair_line pair line) × (new.kept ≡ None)
 IsPairAnswer pair line new (Err (error.Line fault)) =
@@ -79,7 +79,7 @@ pub record IsCrossing (from to : HeldWorld) (number device word : ℕ) : Type 0 
   pub random : word < 2 ^ 32
   pub sent : (s : SentPayload) × (numbered from.sent number ≡ Some s)
 
--- nothing refuses the line in the campaign whose it is
+-- nothing refuses the line in its own campaign
 abbrev pub IsFineTarget : HeldPair → Target → Type 0
 IsFineTarget held Header = IsFine held.a form.Header × IsFine held.b form.Header
 IsFineTarget held (At time) = IsFine held.a (form.At time) × IsFine held.b (form.At time)
