@@ -1,4 +1,4 @@
--- What a capture holds that is heard line by line, and after which lines it stands.
+-- What a capture holds while it is heard line by line, and after which lines it stands.
 use Rattle.std.specs.Prelude.{◌≡◌, ℕ, List, ◌++◌, codes}
 use Rattle.flash_session.specs.Flashes.{Cells}
 use Rattle.device_core.specs.HeldDevice.{HeldDevice, DeviceStands}
