@@ -61,7 +61,7 @@ config_of fields = record {
   span = 0;
 }
 
--- a device at its start; none where a number is out of its bounds, or memory was wanting
+-- a device at its start; none where a number is out of its bounds, or memory was missing
 abbrev pub IsNewDevice : DeviceConfig → Option (HeldDevice Cells) → (answer : ℕ) → Type 0
 IsNewDevice config (Some x) answer = (answer ≡ done) × IsTrue (is_config config) × DeviceStands x (first_device config)
 IsNewDevice config None answer =
@@ -85,7 +85,7 @@ delivered_number delivered.Done = done
 delivered_number delivered.Deaf = deaf
 delivered_number (delivered.Refused refusal) = refused
 delivered_number (delivered.OutboxFull n) = full
--- sessions that are in memory alone give neither
+-- sessions only in memory have neither
 delivered_number delivered.FlashFault = no_object
 delivered_number delivered.Down = no_object
 

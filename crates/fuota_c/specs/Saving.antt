@@ -1,4 +1,4 @@
--- What a device saves for C, and the device that comes back of such bytes.
+-- What a device saves for C, and the device that is restored from such bytes.
 use Rattle.std.specs.Prelude.{◌≡◌, ◌⊎◌, ℕ, Bool, true, false, not, IsTrue, List, Option, Some, None, Result, Ok, Err}
 use Rattle.flash_session.specs.Flashes.{Cells}
 use Rattle.session_store.specs.declared.state.CompleteFlags.{CompleteFlags}
@@ -19,7 +19,7 @@ pub record SavesTo (x : HeldDevice Cells) (old new : List ℕ) (n : ℕ) : Type 
   pub saved : Saves x bytes
   pub put : Whole bytes old new n
 
--- the device that has these bytes and files; its sessions, which lay in memory, are gone
+-- the device that has these bytes and files; its sessions, which were in memory, are gone
 pub record IsBack (config : DeviceConfig) (saved running next : List ℕ) (x : HeldDevice Cells) : Type 0 where
   pub flags : CompleteFlags
   pub saved_is : IsSaved config saved running next (device_of x no_sessions) flags
@@ -31,7 +31,7 @@ IsRestored config saved running next (Err error.BadConfig) = IsTrue (not (is_con
 IsRestored config saved running next (Err error.Corrupt) = IsTrue (is_config config) × NoneSaved config saved running next
 IsRestored config saved running next (Err error.Memory) = IsTrue (is_config config)
 
--- there is none where a number is out of its bounds, memory was wanting, or the bytes and files are of none
+-- there is none where a number is out of its bounds, memory was missing, or the bytes and files are of none
 abbrev pub IsDeviceBack : DeviceConfig → (saved running next : List ℕ) → Option (HeldDevice Cells) → (answer : ℕ) → Type 0
 IsDeviceBack config saved running next (Some x) answer =
     (answer ≡ done) × IsTrue (is_config config) × IsBack config saved running next x
