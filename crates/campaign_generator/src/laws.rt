@@ -1,4 +1,4 @@
-//! Laws about the definitions, each as the contract of a function without a body.
+//! Laws about the definitions, each as the contract of a function with an empty body.
 
 ghost use Rattle.campaign_generator.specs.Forms.{AllLinesSpellForms};
 ghost use Rattle.campaign_generator.specs.ImageFile.{AreImageFiles};

@@ -37,7 +37,7 @@ IsAlike d e = record d { counts = e.counts } ≡ e
 
 -- ---- a command
 
--- a device that has the session of one index alone has none of another
+-- a device that has only the session of one index has none of another
 apart : (own : ℕ) (table : SessionTable) (index : ℕ) → (nat_lt index 4 && not (index == own)) ≡ true → HasNoOther own table
     → session_at table index ≡ None
 apart own table index other alone =

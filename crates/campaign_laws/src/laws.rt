@@ -1,4 +1,4 @@
-//! Laws about the definitions, each the contract of a function without a body.
+//! Laws about the definitions, each the contract of a function with an empty body.
 
 ghost use Rattle.campaign_laws.specs.Headline.{Headline};
 ghost use Rattle.campaign_laws.specs.Lives.{HasItsDevices, SessionsLive};

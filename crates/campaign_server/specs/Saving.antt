@@ -1,5 +1,5 @@
--- What a server knows, as bytes (this project's profile). Plan and image are not among them: the digest after them says
--- to which they belong. Numbers of several bytes have the lowest first.
+-- What a server knows, as bytes (this project's profile). They have neither plan nor image: the digest after them says to which
+-- they belong. Numbers of several bytes have the lowest first.
 --    0  FUSS, and the format, 1
 --    5  the number of the fragment that is sent next, of 2 bytes
 --    7  the group's next frame count, of 4 bytes; without a group 0

@@ -97,7 +97,7 @@ pub record AskSteps : Type 0 where
   pub image_ : asks alone (At Image) ≡ by_unicast 203 (0x04 ∷ [])
   pub reboot : asks alone (At Reboot) ≡ by_unicast 203 (0x03 ∷ 0x00 ∷ 0x00 ∷ 0x00 ∷ [])
   pub check : asks alone (At Check) ≡ by_unicast 203 (0x01 ∷ [])
-  -- the session's index and the group's id, and the mask that has this id's bit alone
+  -- the session's index and the group's id, and the mask that has only this id's bit
   pub by_index : asks elsewhere (At Fragments)
       ≡ by_unicast 201 (0x02 ∷ 0x28 ∷ 0x04 ∷ 0x00 ∷ 0x0d ∷ 0x00 ∷ 0x00 ∷ 0x02 ∷ 0x00 ∷ 0x00 ∷ 0x00 ∷ [])
   pub by_id : request_of (at_stage elsewhere (At Group)) 1
@@ -137,7 +137,7 @@ pub record AnswerSteps : Type 0 where
   pub set_up : leads alone (At Fragments) 201 (0x02 ∷ 0x00 ∷ []) ≡ Some (At Status)
   pub to_window : leads grouped (At Fragments) 201 (0x02 ∷ 0x00 ∷ []) ≡ Some (At Window)
   pub setup_bits : leads alone (At Fragments) 201 (0x02 ∷ 0x0a ∷ []) ≡ Some (Refused Fragments 10)
-  -- each bit alone: encoding, memory, index, descriptor
+  -- each bit by itself: encoding, memory, index, descriptor
   pub encoding : leads alone (At Fragments) 201 (0x02 ∷ 0x01 ∷ []) ≡ Some (Refused Fragments 1)
   pub memory : leads alone (At Fragments) 201 (0x02 ∷ 0x02 ∷ []) ≡ Some (Refused Fragments 2)
   pub index : leads alone (At Fragments) 201 (0x02 ∷ 0x04 ∷ []) ≡ Some (Refused Fragments 4)

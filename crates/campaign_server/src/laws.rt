@@ -1,4 +1,4 @@
-//! What holds of the definitions alone.
+//! Laws about the definitions, each the contract of a function with an empty body.
 
 ghost use Rattle.std.specs.Prelude.{◌≡◌, ◌<◌, ◌≤◌, ◌+◌, length, List, ℕ, Err};
 ghost use Rattle.wire_base.specs.Payload.{max_payload};

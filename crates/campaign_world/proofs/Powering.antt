@@ -29,7 +29,7 @@ zeros zero i = refl
 zeros (suc n) zero = refl
 zeros (suc n) (suc i) = zeros n i
 
--- no session lies in cells that are 0
+-- there is no session in cells that are 0
 blank_at : (n : ℕ) (b : List ℕ) (base : ℕ) → Same (replicate n 0) b → byte_at b base ≡ 0xa5 → ⊥
 blank_at n b base same is = let none : byte_at b base ≡ 0 = same.all base ∙ zeros n base in omega (arith, none, is)
 

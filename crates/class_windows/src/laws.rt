@@ -1,4 +1,4 @@
-//! What holds of the definitions alone.
+//! Laws about the definitions, each the contract of a function with an empty body.
 
 ghost use Rattle.std.specs.Prelude.{◌≡◌, ◌↔◌, ◌<◌, ◌*◌, ◌^◌, ℕ, IsTrue, Some};
 ghost use Rattle.class_windows.specs.Windows.{IsAfterUplink, IsRunning, IsInSlot, IsPinged};

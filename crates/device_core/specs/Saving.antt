@@ -1,5 +1,5 @@
--- What a device knows, as bytes (this project's profile). Neither its configuration nor its files are among them: the digest
--- says to which they belong. Nor are its sessions: those that are held lie in the flash. Numbers of several bytes have the
+-- What a device knows, as bytes (this project's profile). They have neither its configuration nor its files: the digest says to
+-- which they belong. Nor do they have its sessions: those that are held are in the flash. Numbers of several bytes have the
 -- lowest first. An option is a byte 1 and its fields, or zeros.
 --    0  FUSD, and the format, 1
 --    5  the seconds that its clock is ahead, of 4 bytes, and the token of its next request

@@ -320,7 +320,7 @@ pub record GroupSteps : Type 0 where
   pub to_start : sends 1000000 200 session_request (record grouped { clock = record { offset = 7; token = 0 } })
       ≡ (0x04 ∷ 0x00 ∷ 0x03 ∷ 0x00 ∷ 0x00 ∷ []) ∷ []
   pub errors : sends 1000000 200 (0x04 ∷ 0x00 ∷ 0xf2 ∷ 0x03 ∷ 0x00 ∷ 0x00 ∷ 0x00 ∷ 0x00 ∷ 0x00 ∷ 0x00 ∷ 0x06 ∷ []) fresh ≡ (0x04 ∷ 0x1c ∷ []) ∷ []
-  -- one bit alone: no such group, the frequency, the data rate
+  -- one bit by itself: no such group, the frequency, the data rate
   pub undefined : sends 1000000 200 (request_with 1 0x28 0x76 0x84 5) grouped ≡ (0x04 ∷ 0x11 ∷ []) ∷ []
   pub freq_error : sends 1000000 200 (request_with 2 0x00 0x00 0x00 5) grouped ≡ (0x04 ∷ 0x0a ∷ []) ∷ []
   pub dr_error : sends 1000000 200 (request_with 2 0x28 0x76 0x84 6) grouped ≡ (0x04 ∷ 0x06 ∷ []) ∷ []

@@ -8,7 +8,7 @@ pub record InFile : Type 0 where
   pub faults : ℕ
   pub small : size < 2 ^ 32
 
--- no content is told, so nothing is said of what it holds and of what a stop leaves
+-- no content has it, so nothing is said of what it holds and of what a stop leaves
 abbrev pub file_seen : InFile → FlashSeen
 file_seen flash = record {
   holds = λ c. ⊥;

@@ -1,4 +1,4 @@
--- What a change of some places leaves of the session that lies in a range.
+-- What a change of some places leaves of the session in a range.
 use Rattle.std.proofs.Common.{◌≡◌, ◌≢◌, ◌⊎◌, ℕ, suc, ◌+◌, ◌-◌, ◌*◌, ◌<◌, ◌≤◌, List, [], ◌∷◌, ◌++◌, length, sym, ◌∙◌, subst, inl, inr, arith, length-append, w16, w64}
 use Rattle.std.proofs.lemmas.Bool.{cases_eq, cases_lt}
 use Rattle.std.proofs.lemmas.Nat.{mul-le}
@@ -8,7 +8,7 @@ use Rattle.flash_session.specs.Contents.{byte_at, SameOutside, SameWithin}
 use Rattle.flash_session.specs.Layout.{open_gate, body_at, gates_at, tallies_at, most_tallies, records_at, spelled}
 use Rattle.flash_session.specs.Lies.{Stored, SpelledAt, GatesOpen, record_at, RecordsLie, Lies, Fits, with_record, with_tally}
 
--- bytes that stay still lie there
+-- bytes that stay are still there
 pub spelled_kept : (c d : List ℕ) (at : ℕ) (piece : List ℕ) → ((i : ℕ) → i < length piece → byte_at d (at + i) ≡ byte_at c (at + i)) → SpelledAt c at piece → SpelledAt d at piece
 spelled_kept c d at piece same lies = record { bytes = λ i lt. same i lt ∙ lies.bytes i lt }
 
@@ -71,7 +71,7 @@ module _ (base span : ℕ) (s : Stored) (fits : Fits span s) where
       let most : (10 + s.size) * length s.records ≤ (10 + s.size) * s.most = mul-le (10 + s.size) (length s.records) (10 + s.size) s.most (omega arith) few in
       omega (arith, most, fits.room)
 
-  -- the session depends on the places that it reads alone
+  -- the session depends only on the places that it reads
   pub lies_kept : (c d : List ℕ)
       → ((i : ℕ) → base ≤ i → i < record_at base s.size (length s.records) → byte_at d i ≡ byte_at c i) → Lies base s c → Lies base s d
   lies_kept c d same lies =

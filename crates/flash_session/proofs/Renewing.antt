@@ -110,7 +110,7 @@ body_written req fit = record {
   };
 }
 
--- what lies there as it is stored lies there for the session
+-- what is there as it is stored is there for the session
 pub old_lies : (h : HeldSession) (o : Option Session) (seen : FlashSeen) (held : IsHeldAs h o seen) (c : List ℕ) → LiesAs h.base (stored_as o held.body h.tallies) c → LiesForAs h o c
 old_lies h None seen held c lies = lies
 old_lies h (Some s) seen held c lies = record {
@@ -301,7 +301,7 @@ moments_new h o p q {old} {new} e leaves = subst (λ (x : Option Session). Leave
 pub unmoved_setup : (h k : HeldSession) (o p : Option Session) {seen : FlashSeen} → h ≡ k → 24640 ≤ h.span → IsHeldAs k o seen → LeavesOnly (OldNoneOrNew k o p) seen seen
 unmoved_setup h k o p {seen} e long held = unmoved k o (λ c. NoSession k.base c ⊎ LiesForAs k p c) (subst (λ (x : HeldSession). 24640 ≤ x.span) e long) held
 
--- the slot's view and answer are told of what is held
+-- the slot's view and answer are those of what is held
 pub at_view : (h k : HeldSession) (v : Option Seen) → h ≡ k → ((s : Option Session) → Stands h.slot s → v ≡ view_of s) → (s : Option Session) → Stands k.slot s → v ≡ view_of s
 at_view h k v e shown = subst (λ (x : HeldSession). (s : Option Session) → Stands x.slot s → v ≡ view_of s) e shown
 

@@ -38,7 +38,7 @@ abbrev pub AreAt : List ℕ → (at : ℕ) → List ℕ → Type 0
 AreAt c at [] = Unit {0}
 AreAt c at (byte ∷ bytes) = (byte_at c at ≡ byte) × AreAt c (at + 1) bytes
 
--- a session of two fragments of 3 bytes, with two records, newest first, and a fragment that was counted alone
+-- a session of two fragments of 3 bytes, with two records, newest first, and a fragment that was only counted
 abbrev pub worked_stored : Stored
 worked_stored = record {
   body = setup_bytes (record worked_setup { nb_frag = 2 });

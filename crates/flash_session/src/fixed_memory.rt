@@ -1,4 +1,4 @@
-//! What a session in flash knows in its fixed memory: a law, the contract of a function without a body.
+//! What a session in flash knows in its fixed memory: a law, the contract of a function with an empty body.
 
 ghost use Rattle.flash_session.specs.FixedMemory.{FixedMemory};
 

@@ -1,4 +1,4 @@
--- Laws about the definitions alone. Functions with an empty body have them as their contracts.
+-- Laws about the definitions. Functions with an empty body have them as their contracts.
 use Rattle.std.specs.Prelude.{◌≡◌, ◌↔◌, ℕ, ◌+◌, ◌*◌, ◌/◌, ◌%◌, ◌<◌, ◌≤◌, List, [], ◌∷◌, ◌++◌, length, take}
 use Rattle.std.specs.List.{AllByRecursion}
 use Rattle.frag_model.specs.Parity.{prbs23, modulus, residues, columns_drawn, line, draws}

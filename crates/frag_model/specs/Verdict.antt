@@ -9,7 +9,7 @@ use Rattle.frag_model.specs.Gain.{gain, excess}
 pub data Verdict : Type 0 where
   -- none of the others yet
   receiving : Verdict
-  -- from the fragment with this mark on, this block alone fits
+  -- from the fragment with this mark on, only this block fits
   complete : ℕ → List (List ℕ) → Verdict
   -- the fragment with this mark made one independent coded fragment more than there are rows
   no_rows : ℕ → Verdict

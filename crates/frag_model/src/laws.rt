@@ -1,4 +1,4 @@
-//! Laws about the definitions, each the contract of a function without a body.
+//! Laws about the definitions, each the contract of a function with an empty body.
 
 ghost use Rattle.frag_model.specs.NewsLaw.{OldFragmentsAddNothing};
 ghost use Rattle.frag_model.specs.Laws.{ExactlyOneVerdict, OneBlockIsOneFile, FullGainIsUniqueness, GainIsBounded, EnoughRowsForTheUnheard, EveryLineHasEnoughDraws, WorkedValues};

@@ -118,7 +118,7 @@ gives_pair held name_a name_b script_name image_a image_b script a first second 
 
 -- ---- after the script
 
--- what is told of two campaigns that were all read
+-- the answer for two campaigns that were all read
 told_of : (pair : PairState) (r : Result (List ℕ) LineError) (a : Answer) → IsPairReport pair r → IsTextAnswer r a
     → a ≡ played pair_answer (pair_end (Ok pair))
 told_of pair (Ok text) a report said =
@@ -126,7 +126,7 @@ told_of pair (Ok text) a report said =
 told_of pair (Err (error.Line fault)) a report said = said ∙ sym (ap (played pair_answer) report)
 told_of pair (Err error.Memory) a report said = absurd said
 
--- what is told after the lines that a pair has heard: its report, or the first refused line
+-- the answer after the lines that a pair has heard: its report, or the first refused line
 told_behind : (held : HeldPair) (r : Result (List ℕ) LineError) (so_far : Result PairState LineFault) (a : Answer)
     → ((pair : PairState) → PairStands held pair → held.kept ≡ None → IsPairReport pair r)
     → ((e : LineError) → held.kept ≡ Some e → r ≡ Err e) → PairIsIf held so_far → IsTextAnswer r a

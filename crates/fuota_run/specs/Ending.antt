@@ -14,7 +14,7 @@ use Rattle.fuota_run.specs.Source.{IsSource, IsTakenOf}
 use Rattle.fuota_run.specs.Words.{Invocation, plays, payloads, generates, plays_two, asked, asks_files}
 use Rattle.fuota_run.specs.Answer.{Answer, answer, read_fault, usage, file_text, campaign_answer, campaigns_answer, generate_answer, IsFileAnswer, IsAnswerTo, IsAnswer}
 
--- where it is told what is held, something is held under the names of the files that are asked for
+-- where it is known what the files hold, something is held under the names of the files that are asked for
 abbrev pub HoldsInvocation : Option Held → Option Invocation → Type 0
 HoldsInvocation held None = ⊤
 HoldsInvocation held (Some (plays what image script)) = HoldsName held image × HoldsName held script

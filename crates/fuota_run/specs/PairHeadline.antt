@@ -72,7 +72,7 @@ pub record IsVerdictOfTwo (x : Campaign) (image_a image_b script : List ℕ) (pa
 pub record IsOneOfTwo (x : Campaign) (image_a image_b script : List ℕ) (pair : PairState) : Type 0 where
   -- it is the campaign that its own image, and what the lines say to it, define
   pub own : campaign_of (image_of x image_a image_b) (lines_for x image_a image_b script) ≡ Ok (side pair x)
-  -- each of its devices is its own first record, after what the lines let happen at it alone
+  -- each of its devices is its own first record, changed only by what the lines let happen at it
   pub devices : (id : ℕ) → let world = side pair x in
       numbered world.devices id ≡ own_record (lines_for x image_a image_b script) world.server.plan.group world.sent id
   pub verdicts : (id : ℕ) (device : DeviceState) (index : ℕ) (s : Session)

@@ -1,4 +1,4 @@
-//! Laws about the definitions, each the contract of a function without a body.
+//! Laws about the definitions, each the contract of a function with an empty body.
 
 ghost use Rattle.std.specs.Prelude.{◌≡◌, ◌+◌, ◌≤◌, ℕ, List, length, true};
 ghost use Rattle.image_slots.specs.Image.{max_image, further, is_image};

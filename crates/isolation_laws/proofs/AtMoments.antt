@@ -285,7 +285,7 @@ differ x p q b is = record {
   devices = b.own.devices;
 }
 
--- ---- what is told
+-- ---- what the report says
 
 both_told : (x : Campaign) (p q : PairState) (id number : ℕ) (stage : Stage) (d one : DeviceState) → (side q x).server ≡ (side p x).server → IsAlike d one
     → numbered (side p x).devices number ≡ Some d → numbered (side q x).devices number ≡ Some one → ledger (side p x).server number ≡ Some stage

@@ -1,4 +1,4 @@
-//! Laws about the definitions, each the contract of a function without a body.
+//! Laws about the definitions, each the contract of a function with an empty body.
 
 ghost use Rattle.isolation_laws.specs.AtMoments.{OthersEventsAreMoments, ScriptsAreIsolated};
 ghost use Rattle.isolation_laws.specs.CrossingFrames.{FramesCrossInScripts};

@@ -1,4 +1,4 @@
-//! A law about the definitions, as the contract of a function without a body.
+//! A law about the definitions, as the contract of a function with an empty body.
 
 ghost use Rattle.mc_keys.specs.WorkedKeys.{WorkedKeys, WorkedSessionKeys};
 

@@ -51,7 +51,7 @@ grid_next nb size rows count count' gained gained' columns columns' spare spare'
   gained_all = gained_is ∙ sym (ap gained_held is);
 }
 
--- a piece that is kept lies within the area
+-- a piece that is kept is within the area
 pub piece_room : (nb size rows count gained k : ℕ) (columns : List Column) (spare known area : List ℕ) (arena : Arena) → IsGrid nb size rows count gained columns spare known area arena
     → get_or (take nb columns) k Free ≡ Piece → k * size + size ≤ length area
 piece_room nb size rows count gained k columns spare known area arena h is =

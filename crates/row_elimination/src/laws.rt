@@ -1,4 +1,4 @@
-//! A law about what a solver stands for, as the contract of a function without a body.
+//! A law about what a solver stands for, as the contract of a function with an empty body.
 
 ghost use Rattle.row_elimination.specs.HeldHistory.{FeedStands};
 

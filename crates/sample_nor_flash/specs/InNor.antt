@@ -9,7 +9,7 @@ pub record InNor (N : Type 0) : Type 0 where
   pub faults : ℕ
   pub small : size < 2 ^ 32
 
--- no content is told, so nothing is said of what it holds and of what a stop leaves
+-- no content has it, so nothing is said of what it holds and of what a stop leaves
 abbrev pub nor_seen : {N : Type 0} → InNor N → FlashSeen
 nor_seen {N} flash = record {
   holds = λ c. ⊥;

@@ -1,4 +1,4 @@
-//! Bytes turned, and compared.
+//! Bytes inverted, and compared.
 
 ghost use Rattle.std.specs.Prelude.{◌≡◌, length};
 ghost use Rattle.std.specs.Bool.{OnTrue};
@@ -7,7 +7,7 @@ ghost use Rattle.sample_nor_flash.specs.Cells.{Turns, Falls};
 /// How many bytes are read at a time, and programmed.
 pub const PAGE: usize = 256;
 
-/// Turns each bit.
+/// Inverts each bit.
 pub fn turn(bytes: &mut [u8])
     ensures { Turns bytes.old bytes.new }
 {
@@ -16,7 +16,7 @@ pub fn turn(bytes: &mut [u8])
     }
 }
 
-/// Makes a page the piece, turned.
+/// Makes a page the piece, inverted.
 pub fn turn_into(page: &mut [u8], piece: &[u8])
     requires { length page.old ≡ length piece.now }
     ensures { Turns piece.now page.new }

@@ -1,4 +1,4 @@
-//! Laws about the definitions, each the contract of a function without a body.
+//! Laws about the definitions, each the contract of a function with an empty body.
 
 ghost use Rattle.script_lines.specs.WorkedLines.{AreForms, AreNone, AreCut, AreNumbers};
 ghost use Rattle.script_lines.specs.WorkedPairs.{ArePairForms, AreNoPairForms};

@@ -1,4 +1,4 @@
-//! What holds of the definitions alone.
+//! Laws about the definitions, each the contract of a function with an empty body.
 
 ghost use Rattle.session_store.specs.WorkedPlaces.{WorkedRanges, WorkedRooms};
 

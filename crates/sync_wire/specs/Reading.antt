@@ -40,7 +40,7 @@ firmware_down bytes at =
     else if number_at bytes at 1 == 0x05 then within bytes at 5 (DevDeleteImageReq (number_at bytes (at + 1) 4))
     else None
 
--- a status that is 3 with the version after it, any other alone
+-- a status that is 3 with the version after it, any other without
 abbrev pub with_next : List ℕ → ℕ → Found Cmd
 with_next bytes at =
     if field bytes (at + 1) 1 0 2 == 3
