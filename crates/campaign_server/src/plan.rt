@@ -35,6 +35,7 @@ pub enum Kind {
 /// When the group is heard (TS005-1.0.0, McClassCSessionReq and McClassBSessionReq).
 #[derive(Clone, Copy, Debug)]
 pub struct PlanWindow {
+    /// The class of the session.
     pub kind: Kind,
     /// SessionTime, in seconds of the devices' clocks.
     pub start: u32,
@@ -65,7 +66,9 @@ pub struct Plan {
     pub parity: u16,
     /// FragIndex of its session, 0 to 3, the same on every device.
     pub index: u8,
+    /// The group, or None for a campaign by unicast.
     pub group: Option<PlanGroup>,
+    /// The group's window; None exactly without a group.
     pub window: Option<PlanWindow>,
     /// The devices, 1 to 64.
     pub devices: Vec<PlanDevice>,

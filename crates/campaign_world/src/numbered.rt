@@ -18,6 +18,7 @@ pub struct SentPayload<'a> {
 /// An uplink that a device made.
 #[derive(Drop)]
 pub struct NumberedUplink<'a> {
+    /// The device, by its ID.
     pub device: u8,
     pub uplink: UplinkRef<'a>,
 }

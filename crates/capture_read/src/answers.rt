@@ -8,6 +8,7 @@ use wire_base::{Direction, Payload};
 pub struct Entry {
     pub port: u8,
     pub dir: Direction,
+    /// At most 242 bytes.
     pub payload: Payload,
 }
 

@@ -29,6 +29,7 @@ const RECORDS_PLACE: u32 = 24_640;
 /// The configuration of a device. It has no text, so that its key gets into no log.
 #[derive(Clone, Copy)]
 pub struct DeviceConfig {
+    /// When it hears unicast payloads.
     pub class: Class,
     /// Hardware version.
     pub hw: u32,

@@ -48,6 +48,7 @@ impl Outbox {
         }
     }
 
+    /// Returns how many uplinks there are.
     pub fn len(&self) -> usize
         ensures number { result ≡ length self.now }
         ensures few { length self.now ≤ outbox_size }

@@ -18,9 +18,13 @@ use std::alloc::Global;
 /// Which sessions had their file whole when the device was last up.
 #[derive(Clone, Copy, Debug, PartialEq, Eq)]
 pub struct CompleteFlags {
+    /// That of index 0.
     pub first: bool,
+    /// That of index 1.
     pub second: bool,
+    /// That of index 2.
     pub third: bool,
+    /// That of index 3.
     pub fourth: bool,
 }
 
