@@ -35,7 +35,6 @@ pub enum Kind {
 /// When the group is heard (TS005-1.0.0, McClassCSessionReq and McClassBSessionReq).
 #[derive(Clone, Copy, Debug)]
 pub struct PlanWindow {
-    /// The class of the session.
     pub kind: Kind,
     /// SessionTime, in seconds of the devices' clocks.
     pub start: u32,

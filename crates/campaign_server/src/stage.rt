@@ -48,7 +48,6 @@ pub struct LastStatus {
 /// What a server knows of a device.
 #[derive(Clone, Copy)]
 pub struct Standing {
-    /// Where it is in the campaign.
     pub stage: Stage,
     /// None before its first FragSessionStatusAns.
     pub status: Option<LastStatus>,

@@ -6,7 +6,7 @@ ghost use Rattle.class_windows.specs.Open.{is_open_a, is_after_uplink};
 /// A class A device, which hears only after an uplink (LoRaWAN 1.0, receive windows).
 #[derive(Clone, Copy, Debug)]
 pub struct ClassA {
-    /// The due moment of its last uplink, in ms of true time.
+    /// The due moment of the uplink made last, in ms of true time.
     pub last_due: Option<u64>,
 }
 

@@ -30,7 +30,7 @@ one_answer here device command = record { device = device; answers = answer_at_o
 abbrev pub uplink_of : Answer → Uplink
 uplink_of answer = record { due = answer.due; port = answer.port; payload = canonical answer.command }
 
--- when the last uplink is due: of several, the one that was made last
+-- when the uplink made last is due: of several answers, the last one
 abbrev pub due_after : Option ℕ → List Answer → Option ℕ
 due_after last [] = last
 due_after last (answer ∷ answers) = due_after (Some answer.due) answers

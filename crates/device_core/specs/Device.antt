@@ -17,8 +17,9 @@ use Rattle.device_core.specs.SessionTable.{SessionTable, no_sessions}
 -- what is kept for the rows of a session
 pub use Rattle.session_store.specs.Rows.{row_words, row_bytes}
 
--- clock: its offset and token; last_due: when its last uplink is due, in ms of true time; groups: a place for each id; reboot:
--- the moment that is set, in seconds of its clock; outbox: the uplinks not yet taken, oldest first
+-- clock: its offset and token; last_due: when the uplink made last is due, in ms of true time;
+-- groups: a place for each id; reboot: the moment that is set, in seconds of its clock;
+-- outbox: the uplinks not yet taken, oldest first
 pub record DeviceState : Type 0 where
   pub config : DeviceConfig
   pub clock : Clock

@@ -15,7 +15,6 @@ pub enum Kind {
 pub struct ClassSession {
     /// The group, 0 to 3.
     pub id: u8,
-    /// The class of the session.
     pub kind: Kind,
     /// SessionTime, in seconds of the device's clock.
     pub time: u32,

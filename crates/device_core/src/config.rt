@@ -11,7 +11,7 @@ use thiserror::Error;
 /// When a device hears unicast payloads (LoRaWAN 1.0).
 #[derive(Clone, Copy, Debug, PartialEq, Eq)]
 pub enum Class {
-    /// In two windows after its last uplink.
+    /// In two windows after the uplink made last.
     A,
     /// Always.
     C,
@@ -29,7 +29,6 @@ const RECORDS_PLACE: u32 = 24_640;
 /// The configuration of a device. It has no text, so that its key gets into no log.
 #[derive(Clone, Copy)]
 pub struct DeviceConfig {
-    /// When it hears unicast payloads.
     pub class: Class,
     /// Hardware version.
     pub hw: u32,

@@ -45,7 +45,7 @@ use std::marker::Model;
 pub struct Device<F: Flash + Drop> {
     config: DeviceConfig,
     clock: DeviceClock,
-    /// When its last uplink is due, in ms of true time.
+    /// When the uplink made last is due, in ms of true time.
     last_due: Option<u64>,
     groups: GroupTable,
     class_session: Option<ClassSession>,

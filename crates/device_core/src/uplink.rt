@@ -20,7 +20,6 @@ pub struct Uplink {
     pub due: u64,
     /// The port of its package.
     pub port: u8,
-    /// The bytes of the payload.
     pub payload: Payload,
 }
 

@@ -55,8 +55,7 @@ verdict shape (f ∷ older) = first_verdict (verdict shape older) (verdict_now s
 unfoldable pub lacking : Shape → List Fragment → ℕ
 lacking shape heard = shape.nb_frag - gain shape heard
 
--- what is missing where this verdict comes now: nothing at a whole file; where the fragment decided against it, what was missing
--- before
+-- what is missing where this verdict comes now: nothing at a whole file; at one against it, what was missing before
 unfoldable pub missing_now : Verdict → ℕ → ℕ → ℕ
 missing_now receiving now before = now
 missing_now (complete mark block) now before = 0

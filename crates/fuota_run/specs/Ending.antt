@@ -114,8 +114,7 @@ abbrev pub WhereNoneFails : Option Held → (files_before files_after out_before
 WhereNoneFails held files_before files_after out_before out_after s Claim = IfSome held (λ h.
     ¬ HasRisen files_before files_after → ¬ HasRisen out_before out_after → s ≢ status.Memory → Claim h)
 
--- the status is that of the answer, and its text was appended; where nothing is known of the files, that of an answer to some
--- bytes
+-- the status is that of the answer, and its text was appended; where no file is known, that of an answer to some bytes
 abbrev pub AppendsAnswer : Option Held → List (List ℕ) → Status → Option (List ℕ) → Option (List ℕ) → Type 0
 AppendsAnswer None words s old new = (text : List ℕ) × IsAnswerToSome (asked words) (answer s text) × Appends old new text
 AppendsAnswer (Some held) words s old new = (a : Answer) × IsAnswer words held a × (s ≡ a.status) × Appends old new a.text

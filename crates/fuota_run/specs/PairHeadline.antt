@@ -90,8 +90,7 @@ pub record IsHeadlineOfTwo (x : Campaign) (image_a image_b script : List ℕ) (p
   -- the session is the one for its own campaign's image, and hears nothing but what the lines bring it
   pub served : IsServed (image_of x image_a image_b) (side pair x).server device.config.rows session
   pub brought : HearsBrought (image_of x image_a image_b) (lines_for x image_a image_b script) (side pair x) id session
-  -- it is complete from the first heard fragment on after which only one file fits, that image, unless its rows do not suffice
-  -- first
+  -- it is complete from the first heard fragment on after which only one file fits, that image, unless its rows run out first
   pub recovered : IsRecovered (image_of x image_a image_b) session
   -- and the device's lines in the report say so
   pub told : IsToldOf x (image_of x image_a image_b) pair id stage device session

@@ -19,11 +19,9 @@ pub enum To {
 /// A payload on its way to devices.
 #[derive(Debug, Drop)]
 pub struct Downlink {
-    /// Whom it is for.
     pub to: To,
     /// The port of the payload's package.
     pub port: u8,
-    /// The bytes of the payload.
     pub payload: Payload,
 }
 

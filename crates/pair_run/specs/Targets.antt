@@ -41,8 +41,7 @@ carried_target x by number word owner =
     if is_same owner.campaign x then One x (carried_form by number owner.number word)
     else Across x by number owner.number word
 
--- a line that names no campaign: both hear the header, the time and the end; a line that names a device is for that device's
--- campaign
+-- a line that names no campaign: both hear the header, the time and the end; a line for a device is its campaign's
 abbrev pub common_target : List Owner → Form → Target
 common_target owners form.Header = Header
 common_target owners (form.At time) = At time

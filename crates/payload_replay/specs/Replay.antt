@@ -47,8 +47,7 @@ replay_device rows = first_device (record {
 abbrev pub captured : List ℕ → Downlink
 captured payload = record { to = Unicast; port = 201; payload = payload }
 
--- what a payload makes of the device, at moment 0 and with random word 0; its uplinks are dropped, and the mark is the line's
--- number
+-- what a payload makes of the device, at moment 0 with random word 0; its uplinks are dropped, and the mark is the line's number
 unfoldable pub after_payload : ℕ → List ℕ → DeviceState → DeviceState
 after_payload n payload device = after_event device (Receives 0 0 n (captured payload))
 

@@ -48,9 +48,7 @@ impl std::error::Error for LineWhy {}
 #[derive(Clone, Copy, Debug, PartialEq, Eq, Error)]
 #[error("line {line} {why}")]
 pub struct LineFault {
-    /// The line's number, counted from 1.
     pub line: u32,
-    /// The first cause.
     pub why: LineWhy,
 }
 

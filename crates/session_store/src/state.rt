@@ -15,16 +15,12 @@ use frag_session::Verdict;
 use row_elimination::Memory;
 use std::alloc::Global;
 
-/// Which sessions had their file whole when the device was last up.
+/// Which sessions, of index 0 to 3 in order, had their file whole when the device was last up.
 #[derive(Clone, Copy, Debug, PartialEq, Eq)]
 pub struct CompleteFlags {
-    /// That of index 0.
     pub first: bool,
-    /// That of index 1.
     pub second: bool,
-    /// That of index 2.
     pub third: bool,
-    /// That of index 3.
     pub fourth: bool,
 }
 

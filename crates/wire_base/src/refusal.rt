@@ -38,7 +38,6 @@ pub enum Why {
 pub struct Refusal {
     /// 0 at `Port`, 242 at `TooLong`, the identifier's place at `UnknownCommand`, and the payload's length at `Short`.
     pub at: u16,
-    /// The cause.
     pub why: Why,
 }
 
