@@ -145,7 +145,7 @@ pub record AreRefused : Type 0 where
   pub other_flash : told (codes
       "fuota 1\nimage 13 0\ndevice 1 c 1 0 0 00000000000000000000000000000000\ndevice 2 c 1 0 0 00000000000000000000000000000000 flash\npower 2\npower 1\n")
       ≡ refused 6 why.Device
-  -- a window of the group is to come
+  -- a window of the group must come
   pub no_window : told (codes
       "fuota 1\nimage 13 0\ngroup 11223344 00000000000000000000000000000000 0 10\ndevice 1 c 1 0 0 00000000000000000000000000000000\n")
       ≡ refused 4 why.Order

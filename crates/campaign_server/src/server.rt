@@ -131,8 +131,8 @@ impl Server {
         })
     }
 
-    /// Returns what it knows as bytes that `restore` takes again: to be stored before it sends anything more. They say which plan
-    /// and image they belong to, and hold neither. It takes no memory.
+    /// Returns what it knows as bytes that `restore` takes again: to be stored before its next payload goes out. They say which
+    /// plan and image they belong to, and hold neither. It takes no memory.
     pub fn save(&self) -> SavedServer
         ensures { result.items ≡ saved_of self.now }
     {

@@ -55,7 +55,7 @@ numbered_after uplinks id made = uplinks ++ map (λ uplink. made_by id uplink) m
 
 -- all uplinks are taken of a device, and numbered
 pub record TakesUplinks (id : ℕ) (old new : HeldDevice Cells) (uplinks new_uplinks : List NumberedUplink) : Type 0 where
-  -- it is at rest, as it was but for its uplinks
+  -- it is at rest, as it was except for its uplinks
   pub rests : (d : DeviceState) → DeviceStands old d → IsStored old d → length d.outbox ≤ outbox_size → IsAtRest new (uplinks_taken d)
   -- they follow the others, the oldest first
   pub numbered : length old.outbox ≤ outbox_size → new_uplinks ≡ numbered_after uplinks id old.outbox
@@ -65,7 +65,7 @@ pub record TakesUplinks (id : ℕ) (old new : HeldDevice Cells) (uplinks new_upl
 -- an event happens at a device, whose uplinks are taken and numbered; `Rests` says which records it rests as
 pub record Happens {H : Type 0} (Rests : H → DeviceState → Type 0) (after : DeviceState → DeviceState) (id : ℕ)
     (old new : H) (uplinks new_uplinks : List NumberedUplink) : Type 0 where
-  -- whatever record it rested as, it rests as what the event makes of that
+  -- for any record it rested as, it rests as what the event makes of that
   pub rests : (d : DeviceState) → Rests old d → Rests new (uplinks_taken (after d))
   -- the uplinks that the event makes follow the others, the oldest first
   pub numbered : (d : DeviceState) → Rests old d → new_uplinks ≡ numbered_after uplinks id (after d).outbox

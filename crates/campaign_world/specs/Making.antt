@@ -57,7 +57,7 @@ abbrev pub root_of : (k11 : Bool) → RootKind
 root_of true = V11
 root_of false = V10
 
--- bytes of flash for a session, whichever file the area takes
+-- bytes of flash for a session, for any file that the area takes
 abbrev pub flash_span : ℕ
 flash_span = 631573
 

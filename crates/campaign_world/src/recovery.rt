@@ -38,7 +38,7 @@ pub fn recovered_by(late: &LateDevice) -> Result<&[u8], NoFile>
     }
 }
 
-/// That of its first session.
+/// The file of its first session.
 fn first_file(device: &Device<CellFlash>) -> Result<&[u8], NoFile>
     ensures file { (d : DeviceState) → DeviceStands device.now d
         → IfOk result (λ file. recovery_by (Some d) ≡ Ok file.now) }

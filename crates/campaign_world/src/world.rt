@@ -1,4 +1,4 @@
-//! A campaign as its script says it, line by line: what was sent, what was heard, and the state of each end.
+//! A campaign as its script describes it, line by line: what was sent, what was heard, and the state of each end.
 
 ghost use Rattle.std.specs.Prelude.{◌≡◌, ◌≤◌, ◌<◌, ◌+◌, true, List, length, None, Some, Ok, Err, IfOk, IfErr, IfSome, OnOk, OnErr, is_some, option_map};
 ghost use Rattle.image_slots.specs.Image.{is_image};

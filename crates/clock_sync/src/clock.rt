@@ -108,5 +108,5 @@ impl DeviceClock {
     }
 }
 
-/// The milliseconds after which a clock of 32 bits of seconds begins anew.
+/// The milliseconds after which a clock of 32 bits of seconds starts again from 0.
 const MILLIS_ROUND: u64 = 1000 << 32;

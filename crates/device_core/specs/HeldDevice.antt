@@ -54,11 +54,11 @@ pub record DeviceStands {F : Type 0} (held : HeldDevice F) (device : DeviceState
 
 -- ---- what a call makes
 
--- what is held went this way, whatever it stood for
+-- what is held changed this way, for any record it stood for
 abbrev pub Becomes : {F : Type 0} → (old new : HeldDevice F) → (DeviceState → DeviceState) → Type 0
 Becomes old new after = (device : DeviceState) → DeviceStands old device → DeviceStands new (after device)
 
--- what is held went as this call does, and the answer is the call's, whatever it stood for
+-- what is held changed as this call does, and the answer is the call's, for any record it stood for
 pub record Makes {F : Type 0} (A : Type 0) (old new : HeldDevice F) (answer : A) (call : DeviceState → Outcome A) : Type 0 where
   pub stands : Becomes old new (λ device. (call device).device)
   pub answers : (device : DeviceState) → DeviceStands old device → answer ≡ (call device).answer

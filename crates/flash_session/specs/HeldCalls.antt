@@ -45,7 +45,7 @@ pub record HeldServes {Answer : Type 0} (words bytes : ℕ) (h : HeldSession) (a
 
 -- What is opened, whatever is there.
 pub record HeldOpened (words bytes base span : ℕ) (limits : Limits) (extent : Extent) (h : HeldSession) (seen : FlashSeen) : Type 0 where
-  -- it stands for the records there, but for the count
+  -- it stands for the records there, except for the count
   pub held_but : (o : Option Session) × IsHeldBut h o seen
   pub nothing_foreign : (b : List ℕ) → seen.holds b → NothingForeign (place_in words bytes base span limits extent) b
   pub place : IsPlaceOf h words bytes base span limits extent

@@ -13,7 +13,7 @@ use thiserror::Error;
 pub struct Failed;
 
 /// Bytes by place. Between two syncs a stop may leave any bytes where something was written; after a sync it leaves what a read
-/// gives. Where a flash's members say nothing of it, no content has `holds`, and the clauses on contents say nothing.
+/// gives. Where a flash tells nothing, no content is held, and the clauses about contents say nothing.
 pub trait Flash {
     /// What a flash tells: what a read gives, what a stop may leave, and how often a call has failed.
     ghost seen: { Self → FlashSeen };

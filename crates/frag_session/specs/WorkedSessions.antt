@@ -88,7 +88,7 @@ pub record WorkedSessions : Type 0 where
   -- a session has no more rows than fragments, and no more than are kept
   pub new : after_setup worked_limits worked_room None worked_setup ≡ Some (session_of worked_setup 4 [])
   pub rows : after_setup (record worked_limits { rows = 3 }) worked_room None worked_setup ≡ Some (session_of worked_setup 3 [])
-  -- an equal setup keeps it, one with another field begins anew, and one that is refused changes nothing
+  -- an equal setup keeps it, one with another field starts a new one, and one that is refused changes nothing
   pub equal : renewed_by worked_setup ≡ Some worked_session
   pub index : renewed_by (record worked_setup { index = 1 }) ≡ Some (session_of (record worked_setup { index = 1 }) 4 [])
   pub mask : renewed_by (record worked_setup { mask = 3 }) ≡ Some (session_of (record worked_setup { mask = 3 }) 4 [])

@@ -32,7 +32,7 @@ pub enum News {
     Old,
 }
 
-/// What became of a fragment.
+/// What happened to a fragment.
 #[derive(Clone, Copy, Debug, PartialEq, Eq)]
 pub enum Heard {
     /// It was heard.

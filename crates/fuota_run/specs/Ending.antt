@@ -47,7 +47,7 @@ ends_source status.ScriptRefused = true
 ends_source status.NotComplete = true
 ends_source s = false
 
--- the answer to what is asked for, whatever bytes the files have
+-- the answer to what is asked for, for any bytes of the files
 abbrev pub IsAnswerToSome : Option Invocation → Answer → Type 0
 IsAnswerToSome None a = a ≡ usage
 IsAnswerToSome (Some (plays what image_name script_name)) a =

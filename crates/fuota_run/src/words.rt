@@ -55,7 +55,7 @@ fn read_form<'a>(
     }
 }
 
-/// The form with a keyword, as a command of its own; None where there is none.
+/// The form with a keyword, as its own command; None where there is none.
 fn form_named<'a>(alloc: Global, keyword: &str) -> Result<Option<Command<'a>>, AllocError>
     ensures { IfOk result (λ o. option_map app_of o ≡ form_named keyword.now) }
 {

@@ -42,7 +42,7 @@ part_saying x id index stage device seen words =
 abbrev pub owner_of : Campaign → (number : ℕ) → Owner
 owner_of x number = record { campaign = x; number = number }
 
--- what the report says of the session, under whatever ID the device has in the script
+-- what the report says of the session, for any ID that the device has in the script
 pub record IsToldOf (x : Campaign) (image : List ℕ) (pair : PairState) (number : ℕ) (stage : Stage) (device : DeviceState) (s : Session) : Type 0 where
   -- some fragment is the first after which only one file fits, the image; or one exceeds the rows first; or it is still open
   pub cases : ((line : ℕ) × WholeAt image s line) ⊎ (((line : ℕ) × OverAt s line) ⊎ StaysOpen s)

@@ -24,7 +24,7 @@ pub fn held_is_unique()
         → (c ≡ d) × (p ≡ q) × (one ≡ other) }
 {}
 
-/// Of the 65,536 counts from `min` on, exactly one has given low two bytes.
+/// Exactly one of the 65,536 counts from `min` on has given low two bytes.
 pub fn one_count_is_near()
     ensures one { (min low : ℕ) → low < 65536
         → (min ≤ count_near min low) × (count_near min low < min + 65536)

@@ -8,7 +8,7 @@ use Rattle.device_core.specs.Events.{Event, event_step}
 abbrev pub counting : Counts → DeviceState → DeviceState
 counting counts device = record device { counts = counts }
 
--- one is the other but for its counters
+-- one is the other except for its counters
 abbrev pub IsAlike : (d e : DeviceState) → Type 0
 IsAlike d e = counting e.counts d ≡ e
 

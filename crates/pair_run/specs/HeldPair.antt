@@ -30,11 +30,11 @@ pub record PairStands (held : HeldPair) (pair : PairState) : Type 0 where
   pub b : WorldStands held.b pair.b
   pub owners : pair.owners ≡ held.owners
 
--- whatever two campaigns were stood for, these of them are stood for now
+-- for any two campaigns that were stood for, these of them are stood for now
 abbrev pub PairBecomes : (old new : HeldPair) → (PairState → PairState) → Type 0
 PairBecomes old new after = (pair : PairState) → PairStands old pair → PairStands new (after pair)
 
--- whatever two were stood for, the devices and the servers of both are stood for now
+-- for any two that were stood for, the devices and the servers of both are stood for now
 abbrev pub PairKeepsEnds : (old new : HeldPair) → Type 0
 PairKeepsEnds old new = (pair : PairState) → PairStands old pair → EndsStand new.a pair.a × EndsStand new.b pair.b
 
@@ -67,7 +67,7 @@ abbrev pub held_side : HeldPair → Campaign → HeldWorld
 held_side held campaign.A = held.a
 held_side held campaign.B = held.b
 
--- a fact of the two campaigns, whatever devices it stands for
+-- a fact of the two campaigns, for any devices it stands for
 abbrev pub OfBoth : HeldPair → (PairState → Type 0) → Type 0
 OfBoth held fact = (a b : List DeviceState) → length a ≡ length held.a.devices → length b ≡ length held.b.devices → fact (pair_of held a b)
 

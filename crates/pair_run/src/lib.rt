@@ -1,4 +1,4 @@
-//! Two campaigns of firmware updates over LoRaWAN at once (TS003 to TS006, 1.0.0), as one script says them line by line: two
+//! Two campaigns of firmware updates over LoRaWAN at once (TS003 to TS006, 1.0.0), as one script describes them line by line: two
 //! servers, each with its image, session index and group, and the devices of both. `Pair` is two worlds. Each line goes to its
 //! own campaign, and the other one only counts it; a payload that a server sends to all may reach a device of the other campaign.
 //! Which campaign a line is for, and the report of both, are this project's profile. What a line does to one campaign is left to

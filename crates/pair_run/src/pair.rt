@@ -1,4 +1,4 @@
-//! Two campaigns as their script says them, line by line.
+//! Two campaigns as their script describes them, line by line.
 
 ghost use Rattle.std.specs.Prelude.{◌≡◌, ◌<◌, ◌+◌, true, None, Some, Err, IfOk, IfErr, OnErr, OnOk, is_some};
 ghost use Rattle.image_slots.specs.Image.{is_image};

@@ -23,7 +23,7 @@ AreHexOf [] [] [] = Unit {0}
 AreHexOf (item ∷ items) (line ∷ lines) (digits ∷ more) = IsHexOf item line digits × AreHexOf items lines more
 AreHexOf items lines digits = ⊥
 
--- a file of payloads in hex beside a capture of the same ones, all of which go down on port 201
+-- a file of payloads in hex and a capture of the same ones, all of which go down on port 201
 pub record IsReplayOf (capture replay : List ℕ) (items : List Entry) : Type 0 where
   pub header : List ℕ
   pub lines : List (List ℕ)

@@ -148,7 +148,7 @@ fn same_word(same: bool) -> &'static str
     if same { " same" } else { " other" }
 }
 
-/// The file in hex, on a line of its own, where it is whole.
+/// The file in hex, on its own line, where it is whole.
 fn file_line(alloc: Global, verdict: Verdict, file: &[u8]) -> Result<String, AllocError>
     ensures { IsText result (file_line verdict file.now) }
 {

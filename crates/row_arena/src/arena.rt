@@ -19,8 +19,8 @@ use thiserror::Error;
 #[error("the storage is too small")]
 pub struct NoRoom;
 
-/// Rows of one shape: each has a line, a bit for each of its columns, and bytes beside it. All are held in the value itself, in
-/// `WORDS` words of 64 bits (at most 16,384) and `BYTES` bytes (at most 61,184). A contract sees the rows as a list.
+/// Rows of one shape: each has a line, a bit for each of its columns, and bytes. All are held in the value itself, in `WORDS`
+/// words of 64 bits (at most 16,384) and `BYTES` bytes (at most 61,184). A contract sees the rows as a list.
 #[derive(Drop)]
 pub struct RowArena<const WORDS: usize, const BYTES: usize> {
     words: ArrayVec<u64, WORDS>,

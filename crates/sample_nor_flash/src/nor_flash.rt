@@ -12,7 +12,7 @@ use crate::sectors::{fetch, lay, start_of, wipe};
 use flash_session::{Failed, Flash};
 use std::marker::Model;
 
-/// Ranges of equal length, one after the other, each in sectors of its own.
+/// Ranges of equal length, one after the other, each in its own sectors.
 #[derive(Drop)]
 pub struct NorFlash<N: Nor + Drop> {
     part: N,

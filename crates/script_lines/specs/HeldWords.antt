@@ -32,7 +32,7 @@ pub record IsForm (line : List ℕ) (form : Form) : Type 0 where
   pub one : form_of line ≡ Some form
   pub two : pair_form_of line ≡ of_none (Some form)
 
--- what comes of a decimal that is the last word of its line, by the keyword before it
+-- the form of a line whose last word is this decimal, by the keyword before it
 pub record DecimalLast (rest : List ℕ) (n : ℕ) : Type 0 where
   pub decimal : decimal_of rest ≡ Some n
   pub up : form_of (codes "up " ++ rest) ≡ Some (Up n)

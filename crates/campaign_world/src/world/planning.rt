@@ -29,7 +29,7 @@ const GROUPS: u8 = 4;
 /// The bytes of flash for each session of a device that holds its sessions there: enough for any file of its area.
 const FLASH_SPAN: u32 = 631_573;
 
-/// A plan as its lines say it so far. Its image and its devices go to the campaign.
+/// A plan as its lines describe it so far. Its image and its devices go to the campaign.
 #[derive(Drop)]
 pub struct Planning {
     pub(super) image: Vec<u8>,
