@@ -22,8 +22,8 @@ use mc_keys::{Key, kek, wrap_key};
 use package_grammar::Command;
 use sync_wire::FIRMWARE_PORT;
 
-/// Returns the port and the command of a stage's request to a device; None at updated and refused, and at a stage for which the
-/// plan lacks the part, to which no answer leads.
+/// Returns the port and the command of a stage's request to a device; None at updated and refused, and at a stage that the plan
+/// has no part for; no answer leads there.
 #[tactic(auto, unfolding(crate::specs::Asking::request_at))]
 pub fn request(
     plan: &Plan,

@@ -201,8 +201,8 @@ impl Server {
         true
     }
 
-    /// Returns what the server asks of device `dev` now, by unicast; None at updated and refused, and at a stage for which the
-    /// plan lacks the part, to which no answer leads.
+    /// Returns what the server asks of device `dev` now, by unicast; None at updated and refused, and at a stage that the plan
+    /// has no part for; no answer leads there.
     pub fn ask(&self, dev: u8) -> Option<Downlink>
         requires first { 1 ≤ dev }
         requires last { dev ≤ length self.now.plan.devices }

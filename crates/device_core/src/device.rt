@@ -159,11 +159,11 @@ impl<F: Flash + Drop> Device<F> {
         }
     }
 
-    /// Takes bytes that the radio heard at `t` ms of true time, at most 4,294,967,295,999. They are a frame for the class
-    /// session's group where the frame's count is from its minMcFCount to below its maxMcFCount, and one of the 65,536 from
-    /// minMcFCount on; then their payload comes to that group as in `deliver`. Other bytes are `Foreign`: they change only the
-    /// deaf counter, and a reboot that is due is carried out. While its sessions are down the answer is Heard(Down), whatever the
-    /// bytes are. It takes no memory.
+    /// Takes bytes that the radio heard at `t` ms of true time, at most 4,294,967,295,999. Where they are a frame of the class
+    /// session's group, with a count from its minMcFCount to below its maxMcFCount, and one of the 65,536 from minMcFCount on,
+    /// their payload comes to that group as in `deliver`. Other bytes are `Foreign`: they change only the deaf counter, and a
+    /// reboot that is due is carried out. While its sessions are down the answer is Heard(Down), whatever the bytes are. It takes
+    /// no memory.
     #[tactic(auto, unfolding(crate::specs::Radio::radio))]
     pub fn radio(&mut self, t: u64, bytes: &[u8], word: u32, mark: u64) -> Aired
         requires { t ≤ max_moment }
@@ -247,9 +247,9 @@ impl<F: Flash + Drop> Device<F> {
         self.slots.raise();
     }
 
-    /// Opens the sessions that are held in its flash, and offers each file that is whole now and was not when the device was last
-    /// up to next, by rising index. At an error the sessions are down. `Flash` comes only where the flash failed; `Foreign` names
-    /// the lowest foreign place of the first session's range that has one, counted from the range's first byte.
+    /// Opens the sessions that are held in its flash, and offers to next, by rising index, each file that is whole now and was
+    /// not when the device was last up. At an error the sessions are down. `Flash` comes only where the flash failed; `Foreign`
+    /// names the lowest foreign place of the first session's range that has one, counted from the range's first byte.
     pub fn power(&mut self) -> Result<(), OpenFault>
         requires { self.old.sessions.held ≡ true }
         ensures { Powers F.seen self.old self.new result }

@@ -65,7 +65,7 @@ impl<const W: usize, const B: usize> Receiving<W, B> {
     }
 
     /// Hears fragment `n` (1 to NbFrag + 8,380) of FragSize bytes, at the mark: the session then stands for its list and this
-    /// fragment after it. A session that this decides takes no more of them.
+    /// fragment after it. A session that is decided by this takes no more fragments.
     pub fn feed(self, n: u16, part: &[u8], mark: u64) -> Next<W, B>
         requires first { 1 ≤ n }
         requires last { n ≤ self.setup.nb_frag + max_parity_index }

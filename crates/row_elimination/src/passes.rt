@@ -18,7 +18,7 @@ use parity_lines::Steps;
 use row_arena::{RowArena, pick, sum_pieces, xor_bytes, xor_words};
 use std::sync::ledger::Ledger;
 
-/// Takes all columns of which a piece or a row is kept out of a line and out of the bytes `part`, and writes what is left of the
+/// Removes from a line, and from the bytes `part`, all columns of which a piece or a row is kept, and writes what is left of the
 /// bytes over `rest`. `known` has the columns of which a piece is kept, and `picks` has room for the columns of a line. Counts
 /// each piece and each row that is added.
 pub fn reduce<const W: usize, const B: usize, M: Ledger>(
@@ -60,7 +60,7 @@ fn sum_counted<M: Ledger>(
     sums.add(picks.len());
 }
 
-/// Takes all columns that lead rows out of an equation that has no column of which a piece is kept, and counts the rows.
+/// Removes all columns that lead rows from an equation, which has no column of which a piece is kept, and counts the rows.
 fn take_rows<const W: usize, const B: usize, M: Ledger>(
     columns: &[PackedColumn],
     arena: &RowArena<W, B>,

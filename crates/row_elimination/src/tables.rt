@@ -181,7 +181,7 @@ impl<const W: usize, const B: usize> Table<W, B> {
         words_for(self.nb_frag)
     }
 
-    /// Takes all columns of which something is held out of a line and out of the bytes `part`, and writes what is left of the
+    /// Removes from a line, and from the bytes `part`, all columns of which something is held, and writes what is left of the
     /// bytes over `rest`. `picks` is room for the columns of a line. Counts each piece and each row that is added.
     pub fn reduce<M: Ledger>(
         &self,

@@ -1,5 +1,5 @@
-//! Lines of the kinds that come by the thousand, each read without counting its words. Where the answer is None or false, the
-//! line is then read word by word.
+//! Lines of the kinds that come by the thousand, each read without counting its words. At None or false the line is read word by
+//! word instead.
 
 ghost use Rattle.std.specs.Prelude.{◌≡◌, ◌≤◌, ◌++◌, ◌^◌, Some, IfSome, IsTrue, codes, length, take};
 ghost use Rattle.script_lines.specs.Numbers.{decimal_of, hex_bytes_of};

@@ -38,9 +38,9 @@ impl<F: Flash + Drop> Device<F> {
 
     /// Restores the device of these bytes, with this configuration, the file that ran, and next, each empty where there was none.
     /// Next is read again, so that it is valid only as what its bytes are. A device whose sessions are held is down until
-    /// `power`, and its files are whole as they were when it was saved; another has no sessions. No flash is called. `BadConfig`
-    /// comes exactly as at `reserve`, and first; `Corrupt` exactly where no device of this configuration has these bytes and
-    /// files; `Memory` where memory is missing. At an error the flash is dropped.
+    /// `power`, and knows which of its files were whole when it was saved; another has no sessions. No flash is called.
+    /// `BadConfig` comes exactly as at `reserve`, and first; `Corrupt` exactly where no device of this configuration has these
+    /// bytes and files; `Memory` where memory is missing. At an error the flash is dropped.
     pub fn restore(
         alloc: Global,
         config: DeviceConfig,
