@@ -31,7 +31,7 @@ use Rattle.campaign_laws.proofs.OwnGroups.{reboot_groups}
 use Rattle.campaign_laws.proofs.Calm.{IsUntouched, due_calm}
 use Rattle.campaign_laws.proofs.LedgerDevices.{IsSound, Goes, goes_on, reboot_goes}
 
--- one is the other but for its counters
+-- one is the other except for its counters
 abbrev pub IsAlike : (d e : DeviceState) → Type 0
 IsAlike d e = record d { counts = e.counts } ≡ e
 

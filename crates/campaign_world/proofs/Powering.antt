@@ -1,4 +1,4 @@
--- Power comes to a device over a flash of cells, for the first time or anew.
+-- Power comes to a device over a flash of cells, for the first time or again.
 use Rattle.std.proofs.Common.{◌≡◌, ℕ, ◌*◌, zero, suc, true, false, List, get_or, replicate, Result, Ok, Err, IfErr, MatchResult, refl, sym, ap, subst, ◌∙◌, arith}
 use Rattle.frag_session.specs.Session.{view_of}
 use Rattle.flash_session.specs.declared.fault.OpenFault.{OpenFault}
@@ -95,7 +95,7 @@ first_rests config n old new r starts blank is_held opened follows rises =
     (ap (λ (d : DeviceState). after_power none_complete no_sessions d) starts.rest ∙ first_quiet config) both.0 in
     record { stands = stands; stored = both.1; empty = sym (outbox_is new (first_device config) stands) }
 
--- anew
+-- again
 pub again_rests : (old new : HeldDevice Cells) (r : Result (Unit {0}) OpenFault) → IsInFlash old.sessions.state
     → ((device : DeviceState) → DeviceStands old device
     → StateIsHeld old.sessions.state device.sessions (cells_seen old.sessions.flash.bytes) → (b : List ℕ) → b ≡ new.sessions.flash.bytes

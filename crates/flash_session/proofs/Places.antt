@@ -19,7 +19,7 @@ gates_kept c d at n most same gates = record {
   shut = λ k le lt is. gates.shut k le lt (sym (same k lt) ∙ is);
 }
 
--- the gate after those that are open has whatever byte: as many are open as before, or one more
+-- the gate after those that are open has any byte: as many are open as before, or one more
 gates_torn : (c d : List ℕ) (at n most more : ℕ) → more ≡ n + 1 → n < most → SameOutside (at + n) 1 c d → GatesOpen c at n most → GatesOpen d at n most ⊎ GatesOpen d at more most
 gates_torn c d at n most more is room same gates =
     let others : (k : ℕ) → k ≢ n → byte_at d (at + k) ≡ byte_at c (at + k) = λ (k : ℕ) (other : k ≢ n).
@@ -106,7 +106,7 @@ module _ (base span : ℕ) (s : Stored) (fits : Fits span s) where
             same.below i (omega (arith, behind, lt, inside))
       ]) lies
 
-  -- the record is written, and its gate has whatever byte: the session as it was, or with the record
+  -- the record is written, and its gate has any byte: the session as it was, or with the record
   pub gate_torn : (f : Fragment) (c d : List ℕ) → length s.records < s.most → length f.part ≡ s.size → Lies base s c
       → SpelledAt c (record_at base s.size (length s.records)) (spelled f) → SameOutside (gates_at base + length s.records) 1 c d → Lies base s d ⊎ Lies base (with_record s f) d
   unfolding with_record
@@ -128,7 +128,7 @@ module _ (base span : ℕ) (s : Stored) (fits : Fits span s) where
         })
       ]
 
-  -- a tally's gate has whatever byte: the session as it was, or with the tally
+  -- a tally's gate has any byte: the session as it was, or with the tally
   pub tally_torn : (c d : List ℕ) → s.tallies < most_tallies → Lies base s c → SameOutside (tallies_at base + s.tallies) 1 c d → Lies base s d ⊎ Lies base (with_tally s) d
   unfolding with_tally
   tally_torn c d room lies same =

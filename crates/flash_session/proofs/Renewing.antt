@@ -171,7 +171,7 @@ module _ (h : HeldSession) (req : SetupReq) (fine : setup_bits h.limits (room_in
     stored = subst (λ (x : Stored). IsStoredAs h.base h.span (Some x) seen) new_stored_is stored;
   }
 
-  -- it begins with this body, in the place of what is held
+  -- it begins with this body, instead of what is held
   abbrev pub beginning : FieldsFit req → (o : Option Session) {seen : FlashSeen} (held : IsHeldAs h o seen) (b : Bool) → ((s : Option Session) → Stands h.slot s → b ≡ is_some s) → Beginning h.span b (setup_bytes req)
   beginning fit o {seen} held b is = record {
     before = stored_as o held.body h.tallies;
@@ -279,7 +279,7 @@ answered_as h (Some s) way all n a held counts e answered =
     ∙ counted_answer (hearing s held.slot.fed).setup (seen_of (hearing s held.slot.fed)) way all n
     ∙ ap₂ (λ (x : SetupReq) (y : Seen). status_in x y way all) (no_more s held.slot.fed) (shows_count s held.slot.fed n held.slot.means (e ∙ count_is h s held counts))
 
--- ---- one history in the place of an equal one
+-- ---- one history instead of an equal one
 
 pub stands_equal : (h : HeldSession) (o p : Option Session) → p ≡ o → HeldStandsAs h o → HeldStandsAs h p
 stands_equal h o p e held = subst (HeldStandsAs h) (sym e) held

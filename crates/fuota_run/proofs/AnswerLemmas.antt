@@ -277,7 +277,7 @@ short_script : (what : ScriptForm) (image script : List ℕ) → length script �
 unfolding script_answer
 short_script what image script within = script_given script (λ bytes. played (world_answer what) (campaign_of image (said_in bytes))) within
 
--- of an image, whatever the script
+-- for an image, whatever the script
 by_image : (held : Option Held) (what : ScriptForm) (image_name script_name image : List ℕ) (limit : ℕ) (a : Answer)
     → IsSource held image_name limit image → ((script : Option (List ℕ)) → a ≡ campaign_answer what (Some image) script)
     → Gives held (Some (plays what image_name script_name)) a

@@ -60,7 +60,7 @@ zip_moved {A} {B} R xs ys n x new all there moves = by (n == 0) there
     by true is = absurd cc
     by false is = at xs ys (n - 1) all is
 
--- where it held no uplink, it is still the same but for its counters
+-- where it held no uplink, it is still the same except for its counters
 still_alike : (d e one : DeviceState) → IsAlike d e → d.outbox ≡ [] → IsAlike d one → IsAlike (uplinks_taken e) one
 still_alike d e one alike empty same =
     subst (λ (x : DeviceState). IsAlike (uplinks_taken x) one) alike

@@ -22,7 +22,7 @@ packed_below limit (b ∷ bs) apart fit =
     let wide : 2 ^ (b.count + b.low) ≤ 2 ^ limit = pow_mono room in
     omega arith
 
--- fields that are packed stand in their bits, whatever stands above them
+-- fields that are packed are in their bits, whatever is above them
 packed_lie : (limit : ℕ) (fields : List Bits) (high : ℕ) → are_apart limit fields ≡ true → BitsFit fields → BitsLie (high * 2 ^ limit + packed_number fields) fields
 packed_lie limit [] high apart fit = tt
 packed_lie limit (b ∷ bs) high apart fit =
