@@ -97,8 +97,8 @@ saved_of server =
 
 -- ---- of which records
 
--- a record that a server of this plan and image can have: a stage and a status a device, the next fragment one of those that are sent or
--- after them, and the next frame count from the group's MIN to its MAX, a number of four bytes
+-- a record that a server of this plan and image can have: a stage and a status a device, the next fragment one of those that are
+-- sent or after them, and the next frame count from the group's MIN to its MAX, a number of four bytes
 pub record IsOver (plan : Plan) (image : List ℕ) (server : ServerState) : Type 0 where
   pub plan_is : server.plan ≡ plan
   pub image_is : server.image ≡ image

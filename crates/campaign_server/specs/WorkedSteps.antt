@@ -81,7 +81,7 @@ pub record AskSteps : Type 0 where
   pub own_key : request_of (record (first_server image (record grouped { devices = two_devices.devices })) { stages = At Version ∷ At Group ∷ [] }) 2
       ≡ Some (record { to = to.Unicast; command = Cast (group_request (record { key = replicate 16 1; root = V10 }) worked_group) })
   pub version : asks alone (At Version) ≡ by_unicast 203 (0x01 ∷ [])
-  -- 4 fragments of 13 bytes, or 2 of 50 with 48 of padding; the descriptor is the firmware version, and a group may feed the session
+  -- 4 fragments of 13 bytes, or 2 of 50 with 48 of padding; the descriptor is the firmware version, and a group may feed it
   pub fragments : asks alone (At Fragments) ≡ by_unicast 201 (0x02 ∷ 0x00 ∷ 0x04 ∷ 0x00 ∷ 0x0d ∷ 0x00 ∷ 0x00 ∷ 0x02 ∷ 0x00 ∷ 0x00 ∷ 0x00 ∷ [])
   pub padded : asks (record alone { frag_size = 50 }) (At Fragments)
       ≡ by_unicast 201 (0x02 ∷ 0x00 ∷ 0x02 ∷ 0x00 ∷ 0x32 ∷ 0x00 ∷ 0x30 ∷ 0x02 ∷ 0x00 ∷ 0x00 ∷ 0x00 ∷ [])

@@ -212,7 +212,7 @@ pub record SessionSteps : Type 0 where
   pub undelayed : answer_delay via.Unicast 109 2 ≡ 0
   -- it is deleted once
   pub deleted : sends 0 201 (0x03 ∷ 0x01 ∷ 0x03 ∷ 0x01 ∷ []) set_up ≡ (0x03 ∷ 0x01 ∷ []) ∷ (0x03 ∷ 0x05 ∷ []) ∷ []
-  -- setups that are refused: no fragments, all padding, too many, a coding of their own, an index or a descriptor that is not taken
+  -- setups that are refused: no fragments, all padding, too many, another coding, an index or a descriptor that is not accepted
   pub no_fragments : sends 0 201 (0x02 ∷ 0x00 ∷ 0x00 ∷ 0x00 ∷ 0x01 ∷ 0x00 ∷ 0x00 ∷ 0x00 ∷ 0x00 ∷ 0x00 ∷ 0x00 ∷ []) fresh ≡ (0x02 ∷ 0x01 ∷ []) ∷ []
   pub all_padding : sends 0 201 (0x02 ∷ 0x00 ∷ 0x04 ∷ 0x00 ∷ 0x01 ∷ 0x00 ∷ 0x01 ∷ 0x00 ∷ 0x00 ∷ 0x00 ∷ 0x00 ∷ []) fresh ≡ (0x02 ∷ 0x01 ∷ []) ∷ []
   pub over_area : sends 0 201 (0x02 ∷ 0x00 ∷ 0x01 ∷ 0x04 ∷ 0x01 ∷ 0x00 ∷ 0x00 ∷ 0x00 ∷ 0x00 ∷ 0x00 ∷ 0x00 ∷ []) fresh ≡ (0x02 ∷ 0x00 ∷ []) ∷ []

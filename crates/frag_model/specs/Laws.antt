@@ -40,7 +40,7 @@ pub record GainIsBounded : Type 0 where
   pub most : (shape : Shape) (heard : List Fragment) → AreNumbered heard → gain shape heard ≤ shape.nb_frag
   pub least : (shape : Shape) (heard : List Fragment) → AreNumbered heard → direct shape heard ≤ gain shape heard
 
--- where at most as many pieces as there are rows had not come uncoded before the first coded fragment, the excess never passes the rows
+-- where at most as many pieces as rows had not come uncoded before the first coded fragment, the excess never passes the rows
 pub record EnoughRowsForTheUnheard : Type 0 where
   -- before it there is none
   pub before : (shape : Shape) (heard : List Fragment) → AllByRecursion (IsUncoded shape) heard → excess shape heard ≡ 0

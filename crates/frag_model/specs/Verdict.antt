@@ -1,4 +1,5 @@
--- The verdict over a list of heard fragments, newest first. (TS004-1.0.0 leaves recovery to the device; when it ends, and how, is this project's profile.)
+-- The verdict over a list of heard fragments, newest first. (TS004-1.0.0 leaves recovery to the device; when it ends, and how, is
+-- this project's profile.)
 use Rattle.std.specs.Prelude.{◌≡◌, ◌≢◌, ◌⊎◌, ℕ, zero, suc, ◌-◌, ◌<◌, ◌≤◌, Bool, nat_lt, List, [], ◌∷◌, map, filter, flat_map, bytes_eq, if◌then◌else◌}
 use Rattle.std.specs.List.{list_all, range_with_len}
 use lib.Pointwise.{pointwise}

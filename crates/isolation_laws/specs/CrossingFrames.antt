@@ -16,7 +16,7 @@ use Rattle.pair_run.specs.PairCauses.{target_in}
 use Rattle.pair_run.specs.PairScript.{read_pair_lines}
 use Rattle.isolation_laws.specs.Isolation.{IsScriptOfTwo}
 
--- a line of an accepted script by which a payload of a campaign goes on the air to a device of the other, after the lines before it
+-- a line of an accepted script by which a payload of a campaign reaches a device of the other on the air, and the lines before it
 pub record CrossesOnAir (x : Campaign) (image_a image_b : List ℕ) (before after : List (List ℕ)) (line : List ℕ) (pair so_far : PairState)
     (sent : SentPayload) (device : DeviceState) : Type 0 where
   pub script : IsScriptOfTwo image_a image_b (before ++ line ∷ after) pair

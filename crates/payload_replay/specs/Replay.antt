@@ -25,7 +25,7 @@ header_rows line = rows_of (codes "replay") line
 
 -- ---- what the device hears
 
--- the device of a replay: class C, hardware version 0 and a clock that is right, which knows both image formats, with 4 sessions and an area for the largest file
+-- the device of a replay: class C, hardware version 0, a clock that is right, both image formats, 4 sessions, the largest area
 abbrev pub replay_device : ℕ → DeviceState
 replay_device rows = first_device (record {
   class = class.C;

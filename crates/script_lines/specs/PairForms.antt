@@ -64,7 +64,7 @@ pair_down line = down_of line (number_behind (word line 1))
 abbrev pub pair_up : List ℕ → Option Form
 pair_up line = if count_of line == 2 then number_behind (word line 1) >>= (λ number. Some (Up number)) else None
 
--- ---- the form that a line spells, if any: window X .. and device N X .. have the letter and then what those of one campaign have
+-- ---- the form that a line spells, if any: window X .. and device N X .. have the letter, then what those of one campaign have
 
 -- of a campaign that the line names, and the end
 abbrev pub pair_sent_form : List ℕ → Option PairForm
