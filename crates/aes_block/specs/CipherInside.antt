@@ -32,7 +32,7 @@ words_at columns n =
 abbrev pub AreRoundKeys : List ℕ → List (List ℕ) → Type 0
 AreRoundKeys key columns = (n : ℕ) → n < 11 → state_of_words (words_at columns n) ≡ round_key key n
 
--- a key, and its round keys beside it
+-- a key and its round keys
 pub record IsExpanded (key : List ℕ) (columns : List (List ℕ)) : Type 0 where
   pub key_is : IsBlock key
   pub keys_are : AreRoundKeys key columns

@@ -9,8 +9,7 @@ use crate::undo::{undo_add_round_key, undo_last_round, undo_mix_columns};
 use crate::words::{add_round_key, from_block, to_block};
 use std::marker::Model;
 
-/// AES-128 under one key. Contracts see the key's 16 bytes. It looks bytes up in tables, so its time is not promised to
-/// be independent of key and block.
+/// AES-128 under one key. Contracts see the key's 16 bytes. It looks bytes up in tables: its time may depend on key and block.
 #[derive(Drop)]
 pub struct Aes128 {
     key: [u8; 16],
@@ -29,7 +28,7 @@ impl Model for Aes128 {
 }
 
 impl Aes128 {
-    /// The cipher under a key.
+    /// Makes the cipher under a key.
     pub fn new(key: &[u8; 16]) -> Self
         ensures { result ≡ key.now }
     {
@@ -39,14 +38,14 @@ impl Aes128 {
         }
     }
 
-    /// The encryption of a block.
+    /// Encrypts a block.
     pub fn encrypt(&self, block: &[u8; 16]) -> [u8; 16]
         ensures { result ≡ cipher self.now block.now }
     {
         encrypted(&self.key, &self.round_keys, block)
     }
 
-    /// The block whose encryption is the one given.
+    /// Decrypts a block: returns the one block that encrypts to it.
     pub fn decrypt(&self, block: &[u8; 16]) -> [u8; 16]
         ensures found { cipher self.now result ≡ block.now }
         ensures only { (x : List ℕ) → IsBlock x → cipher self.now x ≡ block.now → x ≡ result }
@@ -55,7 +54,7 @@ impl Aes128 {
     }
 }
 
-/// The encryption of a block under the key of 16 zeros, whose round keys stand in a table.
+/// Encrypts a block under the key of 16 zeros, whose round keys are in a table.
 #[tactic(auto, using(crate::proofs::ZeroKey::round_keys_are))]
 pub fn encrypt_under_zeros(block: &[u8; 16]) -> [u8; 16]
     ensures { result ≡ cipher (replicate 16 0) block.now }

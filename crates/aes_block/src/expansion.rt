@@ -10,7 +10,7 @@ use crate::words::{byte, from_block, word};
 /// The first byte of Rcon: the powers of x from the first on.
 pub const POWERS: [u8; 10] = [0x01, 0x02, 0x04, 0x08, 0x10, 0x20, 0x40, 0x80, 0x1b, 0x36];
 
-/// The key itself and the keys of the ten rounds: of each column its words, round by round.
+/// Expands a key to the key itself and the keys of the ten rounds: of each column its words, round by round.
 pub fn round_keys(key: &[u8; 16]) -> [[u32; 11]; 4]
     ensures { AreRoundKeys key.now result }
 {

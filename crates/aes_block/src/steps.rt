@@ -33,7 +33,7 @@ fn mixed_column(a: u8, b: u8, c: u8, d: u8) -> u32
     spread(a, 0) ^ spread(b, 1) ^ spread(c, 2) ^ spread(d, 3)
 }
 
-/// A round before its key is added.
+/// Makes a round before its key is added.
 pub fn mixed_round(s: [u32; 4]) -> [u32; 4]
     ensures { state_of_words result ≡ mix_columns (shift_rows (sub_bytes (state_of_words s))) }
 {
@@ -56,7 +56,7 @@ fn substituted_column(a: u8, b: u8, c: u8, d: u8) -> u32
     word(sub_byte(a), sub_byte(b), sub_byte(c), sub_byte(d))
 }
 
-/// The last round before its key is added.
+/// Makes the last round before its key is added.
 pub fn last_round(s: [u32; 4]) -> [u32; 4]
     ensures { state_of_words result ≡ shift_rows (sub_bytes (state_of_words s)) }
 {

@@ -1,4 +1,4 @@
-//! The steps undone: each gives the words that the step takes to those given.
+//! The inverse steps: each returns the words from which the step makes those given.
 
 ghost use Rattle.std.specs.Prelude.{◌≡◌, ℕ, ◌<◌, ◌==◌, if◌then◌else◌, slice_index};
 ghost use Rattle.aes_block.specs.Cipher.{sub_bytes, shift_rows, mix_columns, add_round_key};

@@ -4,7 +4,7 @@ ghost use Rattle.std.specs.Prelude.{◌≡◌, ◌<◌};
 ghost use Rattle.aes_block.specs.Cipher.{add_round_key};
 ghost use Rattle.aes_block.specs.CipherInside.{byte_of, state_of_words, words_at};
 
-/// The byte of a word in a row.
+/// Returns the byte of a word in a row.
 pub fn byte(word: u32, row: u32) -> u8
     requires { row < 4 }
     ensures { result ≡ byte_of word row }
@@ -12,7 +12,7 @@ pub fn byte(word: u32, row: u32) -> u8
     (word >> (24 - 8 * row) & 0xff) as u8
 }
 
-/// The word of four bytes.
+/// Makes a word of four bytes.
 pub fn word(a: u8, b: u8, c: u8, d: u8) -> u32
     ensures first { byte_of result 0 ≡ a }
     ensures second { byte_of result 1 ≡ b }
@@ -22,7 +22,7 @@ pub fn word(a: u8, b: u8, c: u8, d: u8) -> u32
     u32::from_be_bytes([a, b, c, d])
 }
 
-/// The words of a block.
+/// Makes the words of a block.
 pub fn from_block(s: &[u8; 16]) -> [u32; 4]
     ensures { state_of_words result ≡ s.now }
 {
@@ -34,7 +34,7 @@ pub fn from_block(s: &[u8; 16]) -> [u32; 4]
     ]
 }
 
-/// The block of four words.
+/// Makes the block of four words.
 pub fn to_block(s: [u32; 4]) -> [u8; 16]
     ensures { result ≡ state_of_words s }
 {
@@ -49,7 +49,7 @@ pub fn to_block(s: [u32; 4]) -> [u8; 16]
 }
 
 /// AddRoundKey (FIPS 197, 5.1.4).
-/// The words of a round lie apart, so that a state is four words and no wide register.
+/// The words of a round are apart, so that a state is four words and no wide register.
 pub fn add_round_key(s: [u32; 4], keys: &[[u32; 11]; 4], round: usize) -> [u32; 4]
     requires { round < 11 }
     ensures { state_of_words result ≡

@@ -7,7 +7,7 @@ use wire_base::Payload;
 
 const KEY: u128 = 0x2b7e151628aed2a6abf7158809cf4f3c;
 
-/// The message of RFC 4493's examples, of which each takes the first bytes.
+/// The message of RFC 4493's examples; each takes its first bytes.
 static MESSAGE: [u8; 64] = [
     0x6b, 0xc1, 0xbe, 0xe2, 0x2e, 0x40, 0x9f, 0x96, 0xe9, 0x3d, 0x7e, 0x11, 0x73, 0x93, 0x17, 0x2a,
     0xae, 0x2d, 0x8a, 0x57, 0x1e, 0x03, 0xac, 0x9c, 0x9e, 0xb7, 0x6f, 0xac, 0x45, 0xaf, 0x8e, 0x51,
@@ -24,7 +24,7 @@ fn codes_are_those_of_the_standard(rt: HostRuntime) {
     assert!(rt; cmac(&key, &MESSAGE) == 0x51f0bebf7e3b9d92fc49741779363cfeu128.to_be_bytes());
 }
 
-/// What the first bytes of that message have as their code.
+/// The codes of the first bytes of that message.
 struct Vector {
     key: u128,
     len: usize,
@@ -184,8 +184,8 @@ const PORTLESS: [u8; 15] = [
     0x60, 0x44, 0x33, 0x22, 0x11, 0x00, 0x01, 0x00, 0x00, 0x06, 0x5a, 0xa8, 0xb9, 0x4b, 0xec,
 ];
 
-/// The counts from which and below which a frame is heard, and what is wrong with it; one count above its own the low bytes of
-/// `FRAME` stand for 131,073.
+/// The counts from which and below which a frame is heard, and what is wrong with it. With one count above its own, the low bytes
+/// of `FRAME` stand for 131,073.
 static FAULTS: [(u32, u32, &[u8], FrameFault); 8] = [
     (2, 70_000, &TURNED, FrameFault::Mic),
     (

@@ -17,7 +17,7 @@ static TOLD: [GroupAddress; 2] = [
     },
 ];
 
-/// The answer tells of two groups.
+/// The answer lists two groups.
 fn tells_two(rt: &impl Abort, answer: &Cmd) {
     match answer {
         Cmd::McGroupStatusAns {
@@ -133,7 +133,7 @@ fn a_group_has_the_key_that_another_aes_wrapped(rt: HostRuntime) {
     }
 }
 
-/// The last of them, with id 1, of which counts 3 and 4 are heard.
+/// The last of them, with id 1; it hears counts 3 and 4.
 fn table_of_one(rt: &impl Abort) -> GroupTable {
     let mut table = GroupTable::new(2);
     let key = 0x38b4e652e44da7f2370d9e260e271365u128.to_be_bytes();

@@ -171,7 +171,7 @@ static NONE: [&str; 58] = [
     "device 1 c 2 3 4 00000000000000000000000000000000 flash 0000000a",
     "device 1 c 2 3 4 00000000000000000000000000000000 flash flash",
     "device 1 c 2 3 4 00000000000000000000000000000000 Flash",
-    // strangers' payloads
+    // anybody's payloads
     "raw 1 201",
     "raw 1 201 ",
     "raw 1 201  0",
@@ -273,7 +273,7 @@ fn other_lines_of_two_campaigns_spell_no_form(rt: HostRuntime) {
     }
 }
 
-/// A line of a device, and what stands after the key: its descriptor, and whether `v1`, `k11` and `flash` stand there.
+/// A line of a device, and what comes after the key: its descriptor, and whether `v1`, `k11` and `flash` are there.
 struct Tail<'a> {
     line: &'a str,
     descriptor: Option<u32>,
@@ -314,7 +314,7 @@ fn is_device(tail: &Tail) -> bool {
     }
 }
 
-/// `k11` stands after `v1` where that is there, and `flash` last.
+/// `k11` comes after `v1` where that is there, and `flash` last.
 static TAILS: [Tail<'static>; 10] = [
     Tail {
         line: "device 1 c 2 3 4 00000000000000000000000000000000",
@@ -430,7 +430,7 @@ fn a_long_line_is_held_in_part(rt: HostRuntime) {
     assert!(rt; finishes(&mut lines, &[b'a'; 601]));
 }
 
-/// Strangers' payloads: the line, device, port, bytes and word, and whether they are in their ranges.
+/// Anybody's payloads: the line, device, port, bytes and word, and whether they are in their ranges.
 static RAW: [(&str, u64, u64, &[u8], u64, bool); 6] = [
     ("raw 1 201 0801", 1, 201, &[8, 1], 0, true),
     ("raw 2 204 -", 2, 204, &[], 0, true),
@@ -454,8 +454,8 @@ static RAW: [(&str, u64, u64, &[u8], u64, bool); 6] = [
     ),
 ];
 
-/// HEX is an even number of digits of either case, or `-`, and never no word at all; of more bytes than a payload has
-/// it is a word still.
+/// HEX is an even number of digits of either case, or `-`, and never no word at all; with more bytes than a payload has it is
+/// still a word.
 #[test]
 fn bytes_of_strangers_are_read(rt: HostRuntime) {
     for (line, device, port, bytes, word, ranged) in &RAW {
@@ -472,7 +472,7 @@ fn bytes_of_the_air_are_read(rt: HostRuntime) {
     assert!(rt; is_raw_air(b"rawair 1 60 9", &[0x60], 9));
 }
 
-/// Of 600 digits there are 300 bytes; two more are longer than a line.
+/// 600 digits spell 300 bytes; two more are longer than a line.
 #[test]
 fn long_hex_words_are_read(rt: HostRuntime) {
     let mut line = [b'0'; 612];
@@ -489,7 +489,7 @@ fn are(digits: HexBytes, bytes: &[u8]) -> bool {
     spelled.as_slice() == bytes
 }
 
-/// Whether a line is a stranger's payload of these bytes.
+/// Whether a line is anybody's payload of these bytes.
 fn is_raw(line: &[u8], device: u64, port: u64, bytes: &[u8], word: u64) -> bool {
     match form(line) {
         Some(

@@ -1,4 +1,4 @@
-//! Numbers of one to four bytes, put at the end of a payload and read where they lie.
+//! Numbers of one to four bytes, put at the end of a payload and read at their places.
 
 use std::test::*;
 use wire_base::{Payload, put_u8, put_u16, put_u24, put_u32, u8_at, u16_at, u24_at, u32_at};

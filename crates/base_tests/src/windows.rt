@@ -43,8 +43,8 @@ fn hears_in_slot(rt: &impl Abort, beacon: u32, addr: u32, periodicity: u8, slot:
     assert!(rt; !hears(rt, beacon, addr, periodicity, begin + 30));
 }
 
-/// It hears in the slot and in the last one of the beacon period; a slot after that lies past slot 4,095, and none
-/// begins before 2,120 ms.
+/// It hears in the slot and in the last one of the beacon period; a slot after that is past slot 4,095, and none begins before
+/// 2,120 ms.
 fn hears_in_slots(rt: &impl Abort, beacon: u32, addr: u32, periodicity: u8, offset: u16) {
     assert!(rt; periodicity < 8 && offset < 4096);
     let period = 32u16 << periodicity;
@@ -62,7 +62,7 @@ fn hears_in_slots(rt: &impl Abort, beacon: u32, addr: u32, periodicity: u8, offs
     );
 }
 
-/// At so many ms after its beacon it hears nothing, where the beacon period is not over.
+/// It hears nothing so many ms after its beacon, where the beacon period is not over.
 fn is_deaf(rt: &impl Abort, beacon: u32, addr: u32, periodicity: u8, ms: u64) {
     assert!(rt; ms >= 128_000 || !hears(rt, beacon, addr, periodicity, ms));
 }
@@ -101,7 +101,7 @@ fn class_c_hears_while_it_runs(rt: HostRuntime) {
     assert!(rt; !session.open_at(1_014_000));
 }
 
-/// Moments, and whether a device hears then whose uplink was due at 5,000 ms.
+/// Moments, and whether a device hears then; its uplink was due at 5,000 ms.
 static MOMENTS_OF_A: [(u64, bool); 11] = [
     (0, false),
     (3000, false),

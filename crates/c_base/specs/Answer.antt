@@ -1,10 +1,10 @@
--- What a call answers C, beside what it writes: the numbers of the header.
+-- The answer of a call to C, besides what it writes: the numbers of the header.
 use Rattle.std.specs.Prelude.{ℕ}
 
 abbrev pub done : ℕ
 done = 0
 
--- there is nothing to tell, to take or to send
+-- there is nothing to show, to take or to send
 abbrev pub nothing : ℕ
 nothing = 1
 
@@ -35,11 +35,11 @@ deaf = 7
 abbrev pub full : ℕ
 full = 8
 
--- the frame counts of a group are spent
+-- the frame counts of a group are used up
 abbrev pub spent : ℕ
 spent = 9
 
--- saved bytes are of no object that is so set up
+-- saved bytes are not those of such an object
 abbrev pub corrupt : ℕ
 corrupt = 10
 

@@ -1,9 +1,9 @@
-//! Bytes into memory of C's.
+//! Bytes into C's memory.
 
 ghost use Rattle.std.specs.Prelude.{◌≤◌, length};
 ghost use Rattle.c_base.specs.Bytes.{Copied, Whole};
 
-/// Bytes to the front of `into`, if they have room there; their count, and 0 where they have none.
+/// Copies bytes to the front of `into`, where they have room there, and returns their count; 0 where they have none.
 pub fn put_whole(bytes: &[u8], into: &mut [u8]) -> usize
     ensures { Whole bytes.now into.old into.new result }
 {
@@ -15,7 +15,7 @@ pub fn put_whole(bytes: &[u8], into: &mut [u8]) -> usize
     count
 }
 
-/// The bytes from an offset on to the front of `into`, as many as there are and have room; their count.
+/// Copies the bytes from an offset on to the front of `into`, as many as there are and have room, and returns their count.
 pub fn copy_part(file: &[u8], offset: usize, into: &mut [u8]) -> usize
     ensures { Copied file.now offset into.old into.new result }
 {

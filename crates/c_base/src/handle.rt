@@ -1,5 +1,5 @@
-//! An object, or none, by its place in memory. A struct with a type parameter does not cross to C: the crates above have
-//! a struct of the same parts for each kind of object.
+//! An object, or none, by its place in memory. C can't have a struct with a type parameter, so the crates above have a struct of
+//! the same parts for each kind of object.
 
 ghost use Rattle.std.specs.Prelude.{◌≡◌, Option, None, Some, option_map};
 ghost use Rattle.std.specs.Coded.{coded_option};
@@ -9,7 +9,7 @@ use std::alloc::Global;
 use std::marker::Model;
 use std::ptr::null_mut;
 
-/// The place of an object in memory, or none. It is not dropped: `into_box` gives the object back.
+/// The place of an object in memory, or none. It is not dropped: `into_box` returns the object.
 pub struct Handle<T> {
     pub at: *mut T,
     pub alloc: Global,
@@ -23,7 +23,7 @@ impl<T> Model for Handle<T> {
 }
 
 impl<T: Drop> Handle<T> {
-    /// No object.
+    /// Makes a handle without an object.
     pub fn none(alloc: Global) -> Handle<T>
         ensures { result.held ≡ None }
     {
@@ -33,14 +33,14 @@ impl<T: Drop> Handle<T> {
         }
     }
 
-    /// The handle of an object.
+    /// Makes the handle of an object.
     pub fn of(object: Box<T>) -> Handle<T>
         ensures { result.held ≡ Some object.value }
     {
         Handle::of_raw(RawBox::of(object))
     }
 
-    /// The object, if there is one.
+    /// Returns the object, where there is one.
     pub fn into_box(self) -> Option<Box<T>>
         ensures { option_map (λ b. b.value) result ≡ self.held }
     {

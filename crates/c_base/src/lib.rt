@@ -1,6 +1,6 @@
-//! What the crates for C share: an object, or none, as the pointer that C keeps, bytes that go into memory of C's, and
-//! the numbers that calls answer. A box that is taken apart comes back with the value that it had, and bytes are written
-//! whole or as a window. How a handle crosses to C, and what a call does to its object, is left to the crates above.
+//! What the crates for C share: an object, or none, as the pointer that C keeps, bytes that go into C's memory, and the numbers
+//! that calls answer. A box that is taken apart comes back with the value that it had, and bytes are written whole or as a
+//! window. How a handle goes to C, and what a call does to its object, is left to the crates above.
 #![tactic(auto)]
 
 pub mod answer;

@@ -1,4 +1,4 @@
-//! A box as its pointer, in the form that the toolchain's `once_cell` has for itself.
+//! A box as its pointer, in the form that the toolchain's `once_cell` uses.
 
 ghost use Rattle.std.specs.Prelude.{◌≡◌};
 ghost use Rattle.std_alloc.specs.Box.Ownership.{box_owns};
@@ -6,7 +6,7 @@ ghost use Rattle.std_alloc.specs.Box.Ownership.{box_owns};
 use std::alloc::Allocator;
 use std::marker::Model;
 
-/// A box that is taken apart: its pointer, and the allocator that its memory came from.
+/// A box that is taken apart: its pointer, and the allocator of its memory.
 pub struct RawBox<T, A: Allocator> {
     pub at: *mut T,
     pub alloc: A,
@@ -26,7 +26,7 @@ impl<T: Drop, A: Allocator> RawBox<T, A> {
         RawBox { at, alloc }
     }
 
-    /// The box again.
+    /// Makes the box again.
     pub fn into_box(self) -> Box<T, A>
         ensures { result.value ≡ self.value }
     {

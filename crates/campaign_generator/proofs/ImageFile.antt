@@ -62,7 +62,7 @@ built_format : (hw fw : ℕ) (body : List ℕ) → format_of (built hw fw body) 
 unfolding format_of image_start
 built_format hw fw body = refl
 
--- no field lies further on
+-- no field comes later
 built_further : (hw fw : ℕ) (body : List ℕ) → further (built hw fw body) ≡ 0
 unfolding further
 built_further hw fw body = rw (built_format hw fw body) refl

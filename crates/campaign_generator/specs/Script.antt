@@ -31,7 +31,7 @@ unfoldable pub devices_from : (g device left : ℕ) → List ℕ
 devices_from g device zero = []
 devices_from g device (suc left) = device_line device (drawn g) ++ devices_from (stepped g) (device + 1) left
 
--- the server asks a device, which takes the payload, and its answer comes up
+-- the server asks a device, which takes the payload, and its answer reaches the server
 abbrev pub turn : (device sent uplink : ℕ) → List ℕ
 turn device sent uplink = ask_line device ⧺ down_line sent device ⧺ up_line uplink
 
@@ -57,7 +57,7 @@ frags (suc left) = codes "frag\n" ++ frags left
 abbrev pub is_skipped : (v pieces n skipped : ℕ) → Bool
 is_skipped v pieces n skipped = (v == 0) && (nat_lt pieces n || nat_lt skipped 60)
 
--- how many of the pieces are skipped then
+-- how many of the pieces are skipped after it
 abbrev pub skips : Bool → (pieces n skipped : ℕ) → ℕ
 skips true pieces n skipped = if nat_le n pieces then skipped + 1 else skipped
 skips false pieces n skipped = skipped

@@ -1,4 +1,4 @@
--- The numbers of seed 0, the first bytes of its body, and where firmware versions begin anew.
+-- The numbers of seed 0, the first bytes of its body, and where firmware versions start again from 1.
 use Rattle.std.specs.Prelude.{◌≡◌, true, false, [], ◌∷◌, length, take, drop, codes}
 use Rattle.campaign_generator.specs.Draws.{stepped, drawn, after_draws}
 use Rattle.campaign_generator.specs.Firmware.{body_of, size_of, firmware_of_seed, bytes_from, fragments_of, fragments_of_size}

@@ -10,7 +10,7 @@ pub struct Draws {
 }
 
 impl Draws {
-    /// The next number, below 65,536.
+    /// Draws the next number, below 65,536.
     #[tactic(auto, unfolding(crate::specs::Draws::stepped, crate::specs::Draws::drawn))]
     pub fn draw(&mut self) -> u32
         ensures state { self.new.state ≡ stepped self.old.state }

@@ -17,7 +17,7 @@ pub struct Generated {
     pub script: Vec<u8>,
 }
 
-/// The image and the script of a seed: the same ones whenever it is called. The error is that memory ran out.
+/// Makes the image and the script of a seed, always the same. The error is that memory ran out.
 #[tactic(auto, unfolding(crate::specs::Firmware::image_of, crate::specs::Firmware::body_of, crate::specs::Firmware::size_of, crate::specs::Firmware::after_image, crate::specs::Firmware::fragments_of, crate::specs::Script::script_of))]
 pub fn generate(alloc: Global, seed: u32) -> Result<Generated, AllocError>
     ensures image { IfOk result (λ made. made.image.items ≡ image_of seed) }

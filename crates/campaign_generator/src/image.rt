@@ -15,7 +15,7 @@ const HEAD: u32 = 49;
 /// The hardware version of every image.
 const HARDWARE: u32 = 1;
 
-/// The firmware version, from 1 to 1,000.
+/// Returns the firmware version, from 1 to 1,000.
 #[tactic(auto, unfolding(crate::specs::Firmware::firmware_of_seed))]
 pub fn firmware(seed: u32) -> u32
     ensures { result ≡ firmware_of_seed seed }
@@ -23,7 +23,7 @@ pub fn firmware(seed: u32) -> u32
     1 + seed % 1000
 }
 
-/// The length of the body in bytes, from 4,096 to 8,191.
+/// Draws the length of the body in bytes, from 4,096 to 8,191.
 pub fn body_size(draws: &mut Draws) -> u32
     ensures state { draws.new.state ≡ stepped draws.old.state }
     ensures value { result ≡ 4096 + drawn draws.old.state % 4096 }
@@ -32,7 +32,7 @@ pub fn body_size(draws: &mut Draws) -> u32
     4096 + draws.draw() % 4096
 }
 
-/// How many fragments of 64 bytes hold the image of a body of so many bytes.
+/// Returns how many fragments of 64 bytes hold the image of a body of so many bytes.
 #[tactic(auto, unfolding(crate::specs::Firmware::fragments_of_size))]
 pub fn fragments(size: u32) -> u32
     requires { size < 8192 }
@@ -42,7 +42,7 @@ pub fn fragments(size: u32) -> u32
     (HEAD + size).div_ceil(64)
 }
 
-/// The body: so many drawn bytes.
+/// Makes the body: so many drawn bytes.
 pub fn body(alloc: Global, draws: &mut Draws, size: u32) -> Result<Vec<u8>, AllocError>
     ensures bytes { IfOk result (λ made. made.items ≡ bytes_from draws.old.state size) }
     ensures state { IfOk result (λ made. draws.new.state ≡ after_draws draws.old.state size) }
@@ -54,7 +54,7 @@ pub fn body(alloc: Global, draws: &mut Draws, size: u32) -> Result<Vec<u8>, Allo
     Ok(bytes)
 }
 
-/// The file of a firmware version and a body of so many bytes.
+/// Makes the file of a firmware version and a body of so many bytes.
 #[tactic(auto, unfolding(crate::specs::Firmware::file_of, image_slots::specs::Image::image_start))]
 pub fn file(alloc: Global, firmware: u32, size: u32, body: &[u8]) -> Result<Vec<u8>, AllocError>
     ensures { IfOk result (λ made. made.items ≡ file_of 1 firmware size body.now) }

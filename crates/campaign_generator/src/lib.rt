@@ -1,8 +1,7 @@
-//! Campaigns that are made from a seed (this project's profile): an image file, and a script in which eight devices
-//! of class C take it as fragments of which some are lost and some come twice.
-//! `generate` gives exactly the image and the script that the definitions draw from the seed, or says that memory ran out;
-//! a law says which form each line of that script spells.
-//! How a script is played, and what a device makes of it, is left to the crates above.
+//! Campaigns that are made from a seed (this project's profile): an image file, and a script in which eight devices of class C
+//! take it as fragments, some of which are lost and some come twice. `generate` returns exactly the image and the script that the
+//! definitions draw from the seed, or says that memory ran out; a law says which form each line of that script spells. How a
+//! script is played, and what it does to a device, is left to the crates above.
 //!
 //!     let made = generate(alloc, 0)?;
 //!     // made.image is an image file, made.script the lines of a campaign that sends it

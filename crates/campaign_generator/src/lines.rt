@@ -5,7 +5,7 @@ ghost use Rattle.campaign_generator.specs.Script.{device_line, ask_line, down_li
 
 use std::alloc::{AllocError, Global};
 
-/// A device of class C with hardware 1, 64 rows, a clock's offset in seconds, and a key of zeros.
+/// Puts the line of a device of class C with hardware 1, 64 rows, a clock's offset in seconds, and a key of zeros.
 pub fn put_device(
     alloc: Global,
     text: &mut Vec<u8>,
@@ -24,7 +24,7 @@ fn device_line(alloc: Global, device: u32, offset: u32) -> Result<String, AllocE
     format!(in alloc; "device {device} c 1 64 {offset} 00000000000000000000000000000000\n")
 }
 
-/// The server asks a device.
+/// Puts the line by which the server asks a device.
 pub fn put_ask(alloc: Global, text: &mut Vec<u8>, device: u32) -> Result<(), AllocError>
     ensures { IfOk result (λ _. text.new.items ≡ text.old.items ++ ask_line device) }
 {
@@ -38,7 +38,7 @@ fn ask_line(alloc: Global, device: u32) -> Result<String, AllocError>
     format!(in alloc; "ask {device}\n")
 }
 
-/// A device takes a payload by its sent number.
+/// Puts the line by which a sent payload reaches a device.
 pub fn put_down(alloc: Global, text: &mut Vec<u8>, sent: u32, device: u32) -> Result<(), AllocError>
     ensures { IfOk result (λ _. text.new.items ≡ text.old.items ++ down_line sent device) }
 {
@@ -52,7 +52,7 @@ fn down_line(alloc: Global, sent: u32, device: u32) -> Result<String, AllocError
     format!(in alloc; "down {sent} {device}\n")
 }
 
-/// An uplink comes to the server.
+/// Puts the line by which an uplink reaches the server.
 pub fn put_up(alloc: Global, text: &mut Vec<u8>, uplink: u32) -> Result<(), AllocError>
     ensures { IfOk result (λ _. text.new.items ≡ text.old.items ++ up_line uplink) }
 {

@@ -11,16 +11,16 @@ use std::alloc::{AllocError, Global};
 /// The devices of every script.
 const DEVICES: u32 = 8;
 
-/// The coded fragments after the pieces.
+/// The number of coded fragments.
 const PARITY: u32 = 128;
 
-/// Of the pieces, as many are skipped at most for a device.
+/// The most uncoded fragments that a device skips.
 const MAX_SKIPPED: u32 = 60;
 
-/// The payloads that are sent before the fragments.
+/// The number of payloads that are sent before the fragments.
 const SENT_BEFORE: u32 = 16;
 
-/// The whole script for an image of so many pieces.
+/// Makes the whole script for an image of so many pieces.
 #[tactic(auto, unfolding(crate::specs::Script::script_from))]
 pub fn script(alloc: Global, draws: &mut Draws, pieces: u32) -> Result<Vec<u8>, AllocError>
     requires { pieces ≤ 1024 }
@@ -49,7 +49,7 @@ fn put_devices(alloc: Global, text: &mut Vec<u8>, draws: &mut Draws) -> Result<(
     Ok(())
 }
 
-/// A turn of a device: it is asked, takes the payload, and its answer comes up.
+/// A turn of a device: it is asked, takes the payload, and its answer reaches the server.
 fn put_turn(
     alloc: Global,
     text: &mut Vec<u8>,
@@ -124,7 +124,7 @@ fn is_skipped(v: u32, pieces: u32, n: u32, skipped: u32) -> bool
     v == 0 && (n > pieces || skipped < MAX_SKIPPED)
 }
 
-/// How many pieces are skipped then.
+/// How many pieces are skipped after it.
 fn skips(skip: bool, pieces: u32, n: u32, skipped: u32) -> u32
     requires { skipped < 2 ^ 31 }
     ensures { result ≡ skips skip pieces n skipped }

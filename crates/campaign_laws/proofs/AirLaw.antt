@@ -1,4 +1,4 @@
--- `air` in the place of `down` leaves a campaign as it is.
+-- `air` instead of `down` leaves a campaign unchanged.
 use Rattle.std.proofs.Common.{◌≡◌, inl, inr, ℕ, ◌+◌, ◌^◌, ◌<◌, ◌≤◌, ◌&&◌, ◌||◌, not, nat_lt, nat_le, Bool, true, false, cond, List, [], ◌∷◌, ◌++◌, length, map, All, codes, Option, None, Some, Result, Ok, Err, refl, sym, ap, ◌∙◌, subst, arith}
 use Rattle.std.proofs.lemmas.Bool.{le-ltb, cases_lt, lt-ltb}
 use Rattle.std.specs.List.{AllZip}

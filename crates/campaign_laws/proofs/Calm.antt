@@ -1,4 +1,4 @@
--- A device that runs no file, and is not told to reboot, stays so.
+-- A device that runs no file, and is not asked to reboot, stays so.
 use Rattle.std.proofs.Common.{◌≡◌, ◌⊎◌, inl, inr, ℕ, ◌+◌, ◌==◌, nat_le, nat_lt, Bool, true, false, cond, List, [], ◌∷◌, length, Option, None, Some, is_none, Result, Ok, Err, refl, sym, ap, ◌∙◌, subst, arith}
 use Rattle.std.specs.List.{AllByRecursion, slice_set}
 use Rattle.wire_base.specs.declared.refusal.Direction.TheVariants.{Down}

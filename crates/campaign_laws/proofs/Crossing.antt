@@ -31,13 +31,13 @@ use Rattle.campaign_laws.proofs.OwnGroups.{reboot_groups}
 use Rattle.campaign_laws.proofs.Calm.{IsUntouched, due_calm}
 use Rattle.campaign_laws.proofs.LedgerDevices.{IsSound, Goes, goes_on, reboot_goes}
 
--- one is the other but for its counters
+-- one is the other except for its counters
 abbrev pub IsAlike : (d e : DeviceState) → Type 0
 IsAlike d e = record d { counts = e.counts } ≡ e
 
 -- ---- a command
 
--- a device that has the session of one index alone has none of another
+-- a device that has only the session of one index has none of another
 apart : (own : ℕ) (table : SessionTable) (index : ℕ) → (nat_lt index 4 && not (index == own)) ≡ true → HasNoOther own table
     → session_at table index ≡ None
 apart own table index other alone =

@@ -61,7 +61,7 @@ heard_is c d mark plain read light =
     let few : nat_lt 8 (length d.outbox + weights (c ∷ [])) ≡ false = le-ltb _ _ (omega (arith, none, light)) in
     rw (plain.class, read, few) refl
 
--- what a command makes of it, but for a reboot that is then due
+-- what a command makes of it, except for a reboot that is then due
 pub delivered_is : (c : Command) (d : DeviceState) (mark : ℕ) → IsPlain d → reading_of (port_of c) Down (canonical c) ≡ Ok (c ∷ []) → weight c ≤ 1
     → behind mark c d ≡ after_due_reboot 0 (after_answers (command_step (at_of mark c) d c))
 unfolding delivery

@@ -302,7 +302,7 @@ quiet_turn image w n said d event other k cut first there stays =
       empty = refl;
     })
 
--- a device that knows both image formats from now on stays as it is but for its slots
+-- a device that knows both image formats from now on stays as it is except for its slots
 migration_stays : (d : DeviceState) → Stays d (taken (after_migration d))
 unfolding after_migration
 migration_stays d = record { config = refl; sessions = refl }

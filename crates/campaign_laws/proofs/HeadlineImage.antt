@@ -1,4 +1,4 @@
--- The image's own block fits all that its server sends, so that it is the one where one fits alone.
+-- The image's own block fits all that its server sends; so it is the block, where only one fits.
 use Rattle.std.proofs.Common.{◌≡◌, ℕ, ◌<◌, ◌^◌, List, [], ◌∷◌, ◌++◌, length, replicate, All, sym, ap, ◌∙◌, subst, arith}
 use Rattle.std.specs.List.{AllByRecursion}
 use Rattle.std.proofs.lemmas.List.{length-replicate}
@@ -59,7 +59,7 @@ image_fits image shape padding heard h all =
       },
     )
 
--- a file that fits alone is the image
+-- a file that is the only one to fit is the image
 pub alone_is_image : (image : List ℕ) (shape : Shape) (padding : ℕ) (heard : List Fragment) (file : List ℕ)
     → IsShapeFor image shape padding → AllByRecursion (IsFragmentOf image shape.frag_size) heard
     → OneFileFits shape padding heard file → file ≡ image

@@ -148,7 +148,7 @@ elsewhere image lines sent id n number other word line line_is says differs c b 
     let it : id ≡ other = cc in
     differs it
 
--- a down delivers its payload alone, and the way it comes by
+-- a down delivers only its payload, and the way it comes by
 record IsTheOne (to : To) (c : Command) (down : DownlinkCommand) : Type 0 where
   command : c ≡ down.command
   to_is : to ≡ down.to

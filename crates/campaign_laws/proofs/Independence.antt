@@ -146,7 +146,7 @@ up_still w (Some made) =
 
 -- ---- one form
 
--- a device's record, where so much is told of it
+-- a device's record, where so much happens to it
 abbrev pub folded : List Event → Option DeviceState → Option DeviceState
 folded events start = option_map (λ (first : DeviceState). fold after_event first events) start
 
@@ -376,7 +376,7 @@ said_group w end (Own (Air number device word)) lines is airs =
     ∙ group_stays (after_line w (Ok (Own (Air number device word)))) end lines is s.over
 said_group w end said lines is airs = absurd cc
 
--- what is told from a line on is what it tells, and what is told after it
+-- what the lines from one on say is what it says, and what those after it say
 line_told : (id : ℕ) (w end : WorldState) (line : Line) (rest : List Line)
     → line_cause w line ≡ None → Grows w.sent end.sent → read_lines (Ok (after_line w line)) rest ≡ Ok end
     → folded (history_of id end.server.plan.group end.sent (after_line w line).time ((after_line w line).lines + 1) rest)

@@ -12,7 +12,7 @@ use Rattle.campaign_world.specs.Making.{raw_down}
 use Rattle.device_core.specs.Events.{Wakes, Receives, HearsBytes}
 use Rattle.campaign_laws.specs.Independence.{history_of}
 
--- the last two are of another campaign: one concerns it alone, and by the other a payload of its server reaches device 2
+-- the last two are of another campaign: one concerns only that, and by the other a payload of its server reaches device 2
 abbrev pub lines : Downlink → List Line
 lines down = map line_of
     (codes "at 5" ∷ codes "wake 2" ∷ codes "wake 1" ∷ codes "frag" ∷ codes "down 1 2 9" ∷ codes "at 6" ∷ codes "down 1 1"

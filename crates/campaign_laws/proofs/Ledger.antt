@@ -121,7 +121,7 @@ record Holds (image : List ℕ) (w : WorldState) : Type 0 where
 
 -- ---- a payload is sent
 
--- the stages of a server are told truly
+-- the stages of a server are true
 abbrev AreTrue : List ℕ → List DeviceState → ServerState → Type 0
 AreTrue image ds server = (id : ℕ) → numbered server.stages id ≡ Some Updated → Runs image ds id
 

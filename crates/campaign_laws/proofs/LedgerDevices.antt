@@ -456,7 +456,7 @@ both_tell : (image : List ℕ) (R : Type 0) (us vs : List Uplink) → AllByRecur
 both_tell image R [] vs one more = more
 both_tell image R (u ∷ us) vs one more = (one.0, both_tell image R us vs one.1 more)
 
--- its answers lie in the outbox
+-- its answers are in the outbox
 answers_go : (image : List ℕ) (cut : Cut) (m : DeviceState) (made : DeviceStep) → IsSound image cut m
     → Makes image cut m made.device
     → AllByRecursion (TellsTruly image (IsRunning image m.slots)) (map uplink_of made.answers)

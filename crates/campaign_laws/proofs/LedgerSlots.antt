@@ -215,7 +215,7 @@ again image hw formats version running (state.Valid held) file k = record {
 pub raised_slots : (image : List ℕ) (hw : ℕ) (slots : Slots) → HasSlots image slots → SlotsGo image slots (after_raise hw slots)
 raised_slots image hw slots k = again image hw slots.formats slots.version slots.running slots.next slots.next_file k
 
--- ---- what is told of a version
+-- ---- what is answered of a version
 
 -- where a command tells the image's version, this holds
 abbrev pub Tells : (image : List ℕ) → Type 0 → Command → Type 0
@@ -235,7 +235,7 @@ tells_on image R S on (u ∷ us) all = (λ cs is. tell cs (all.0 cs is), tells_o
     tell [] told = tt
     tell (x ∷ xs) told = (λ hardware is. on (told.0 hardware is), tell xs told.1)
 
--- the versions are told on port 203 alone
+-- versions come only on port 203
 far_tells : (image : List ℕ) (R : Type 0) (cs : List Command) (port : ℕ) (bytes : List ℕ) (from end : ℕ)
     → (port ≡ 203 → ⊥) → SpellsTo cs port Up bytes from end → AllByRecursion (Tells image R) cs
 far_tells image R [] port bytes from end far all = tt

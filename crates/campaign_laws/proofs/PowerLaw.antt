@@ -1,4 +1,4 @@
--- `at` the time now in the place of `power` leaves a campaign as it is.
+-- `at` the time now instead of `power` leaves a campaign unchanged.
 use Rattle.std.proofs.Common.{◌≡◌, inl, inr, ℕ, ◌≤◌, ◌&&◌, nat_le, Bool, true, false, List, [], ◌∷◌, None, Some, Result, Ok, Err, refl, sym, ap, ◌∙◌, subst, arith}
 use Rattle.std.proofs.lemmas.Bool.{le-leb, and_parts}
 use Rattle.script_lines.specs.declared.forms.Form.TheVariants.{At, Power}

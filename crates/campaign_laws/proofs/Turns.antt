@@ -31,7 +31,7 @@ use Rattle.campaign_laws.proofs.Devices.{IsPlain, at_of, holding, still_due, tak
 use Rattle.campaign_laws.proofs.Sessions.{cut, IsOurs, something_missing, nothing_missing}
 use Rattle.campaign_laws.proofs.Hearing.{IsMade, IsNew, IsReady, is_cut, no_bits}
 
--- its last uplink is no matter
+-- its last uplink doesn't matter
 plain_holding : (e : DeviceState) → IsPlain e → IsPlain (holding [] e)
 plain_holding e plain = record {
   class = plain.class;

@@ -1,4 +1,4 @@
--- The campaign of a seed is accepted, and whoever has the file runs it.
+-- The campaign of a seed is accepted, and each device that has the file runs it.
 use Rattle.std.specs.Prelude.{◌≡◌, ℕ, length, Some, Ok}
 use Rattle.frag_session.specs.Session.{view_of}
 use Rattle.device_core.specs.Device.{DeviceState}

@@ -1,5 +1,5 @@
--- A frame in the air is as good as the payload itself (LoRaWAN 1.0.x, 4; this project's profile): `air` in the place of `down`
--- leaves a campaign as it is.
+-- A frame in the air does what the payload itself does (LoRaWAN 1.0.x, 4; this project's profile): `air` instead of `down` leaves
+-- a campaign unchanged.
 use Rattle.std.specs.Prelude.{◌≡◌, ◌⊎◌, ℕ, ◌^◌, ◌<◌, true, List, ◌++◌, All, codes, Some, Ok}
 use Rattle.std.specs.List.{AllZip}
 use Rattle.wire_base.specs.Numbered.{numbered}
@@ -13,7 +13,7 @@ use Rattle.campaign_world.specs.Causes.{goes_out}
 use Rattle.campaign_world.specs.Honest.{AreHonest}
 use Rattle.campaign_world.specs.Script.{campaign_of}
 
--- the other line has `air` in the place of `down`, and what is named is a payload to the group
+-- the other line has `air` instead of `down`, and what is named is a payload to the group
 pub record HasAir (sent : List SentPayload) (line other rest : List ℕ) (number device word : ℕ) : Type 0 where
   pub down : line ≡ codes "down " ++ rest
   pub air : other ≡ codes "air " ++ rest
@@ -25,7 +25,7 @@ abbrev pub IsAired : List SentPayload → (line other : List ℕ) → Type 0
 IsAired sent line other = (other ≡ line)
     ⊎ ((rest : List ℕ) × (number : ℕ) × (device : ℕ) × (word : ℕ) × HasAir sent line other rest number device word)
 
--- whatever image and accepted honest script there are, and whichever of its downs of payloads to the group are written as air
+-- for any image and any accepted honest script, and whichever of its downs of payloads to the group are written as air
 abbrev pub AirIsDown : Type 0
 AirIsDown = (image script other : List ℕ) (world : WorldState) → All (λ b. b < 2 ^ 8) image → AreHonest 0 (said_in script)
     → campaign_of image (said_in script) ≡ Ok world → AllZip (IsAired world.sent) (lines_of script) (lines_of other)

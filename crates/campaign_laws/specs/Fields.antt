@@ -1,5 +1,4 @@
--- The keys and the addresses that lines say fit their fields, and their image has this index, as it is with the lines of a
--- script.
+-- The keys and the addresses in the lines fit their fields, and their image has this index, as it is with the lines of a script.
 use Rattle.std.specs.Prelude.{◌≡◌, ℕ, ◌^◌, ◌<◌, List, Ok}
 use Rattle.std.specs.List.{AllByRecursion}
 use Rattle.aes_block.specs.Cipher.{IsBlock}

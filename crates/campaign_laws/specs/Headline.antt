@@ -113,7 +113,7 @@ abbrev pub campaign_before : (image : List ℕ) → (lines : List Line) → (n :
 campaign_before image lines n = read_lines (Ok (first_world image)) (take (n - 1) lines)
 
 -- what comes this way to device id at line n, after a reboot that is due, is heard: its receiver is open, and the server's
--- session takes what comes by that group. By unicast a device of class C hears always
+-- session accepts what comes by that group. A device of class C always hears unicast
 pub record Listens (image : List ℕ) (lines : List Line) (id n : ℕ) (to : To) (world : WorldState) (device : DeviceState) : Type 0 where
   pub before : campaign_before image lines n ≡ Ok world
   pub there : numbered world.devices id ≡ Some device
@@ -151,9 +151,9 @@ pub record HearsBrought (image : List ℕ) (lines : List Line) (world : WorldSta
 
 -- what is seen of the session in a campaign, where the image is known
 pub record IsRecovered (image : List ℕ) (s : Session) : Type 0 where
-  -- it is decided at the first fragment after which one file alone fits, or independent coded fragments exceed the rows
+  -- it is decided at the first fragment after which only one file fits, or independent coded fragments exceed the rows
   pub decided : IsDecidedAtFirst s
-  -- a file that alone fits what was heard by then is the image
+  -- a file that is the only one to fit what was heard by then is the image
   pub alone : (newer older : List Fragment) (file : List ℕ) → s.heard ≡ newer ++ older → OneFileFits (shape_of s) s.setup.padding older file → file ≡ image
   -- and the image is what is shown then
   pub shown : (mark : ℕ) → (seen_of s).verdict ≡ verdict.Complete mark → (seen_of s).file ≡ image
@@ -189,7 +189,7 @@ StaysOpen s = AfterEach (IsOpen (shape_of s) s.setup.padding) s.heard
 
 -- what the report says of the session
 pub record IsReported (image : List ℕ) (world : WorldState) (id : ℕ) (stage : Stage) (device : DeviceState) (s : Session) : Type 0 where
-  -- some fragment is the first after which one file alone fits, the image; or one exceeds the rows first; or it is open yet
+  -- some fragment is the first after which only one file fits, the image; or one exceeds the rows first; or it is still open
   pub cases : ((line : ℕ) × WholeAt image s line) ⊎ (((line : ℕ) × OverAt s line) ⊎ StaysOpen s)
   -- where there is one, the report names its line
   pub complete : (line : ℕ) → WholeAt image s line → report_of world ≡ report_saying world id stage device (seen_of s) (complete_words line)
@@ -208,7 +208,7 @@ pub record IsCampaign (image : List ℕ) (lines : List Line) (world : WorldState
   pub device_is : numbered world.devices id ≡ Some device
   pub session_is : session_at device.sessions world.server.plan.index ≡ Some session
 
--- whatever image and accepted lines of losses, repeats and reorderings there are, whose keys and addresses fit their fields
+-- for any image and any accepted lines of losses, repeats and reorderings, whose keys and addresses fit their fields
 pub record Headline : Type 0 where
   -- a device is configured as its line says
   pub configured : (image : List ℕ) (lines : List Line) (world : WorldState) (id : ℕ) (device : DeviceState) → All (λ b. b < 2 ^ 8) image
@@ -224,7 +224,7 @@ pub record Headline : Type 0 where
   -- it hears what the lines bring
   pub brought : (image : List ℕ) (lines : List Line) (world : WorldState) (id : ℕ) (stage : Stage) (device : DeviceState) (session : Session)
       → AllFit world.server.plan.index lines → IsCampaign image lines world id stage device session → HearsBrought image lines world id session
-  -- it is complete exactly when one file alone fits, the image, unless the rows are exceeded first
+  -- it is complete exactly when only one file fits, the image, unless the rows are exceeded first
   pub recovered : (image : List ℕ) (lines : List Line) (world : WorldState) (id : ℕ) (stage : Stage) (device : DeviceState) (session : Session)
       → AllFit world.server.plan.index lines → IsCampaign image lines world id stage device session → IsRecovered image session
   -- the report says so

@@ -1,6 +1,5 @@
--- Devices are independent of one another (this project's profile): the record of each is its own first one, folded over
--- what its script tells of it. No campaign stands in what is folded: only what the lines say, the plan's group, and the
--- payloads that were sent in all.
+-- Devices are independent of one another (this project's profile): the record of each is its own first one, folded over what its
+-- script says of it. What is folded has no campaign: only what the lines say, the plan's group, and all payloads that were sent.
 use Rattle.std.specs.Prelude.{◌≡◌, ℕ, ◌+◌, Bool, false, ◌==◌, if◌then◌else◌, List, [], ◌∷◌, ◌++◌, fold, filter_map, Option, Some, None, option_map, option_to_list, Ok}
 use Rattle.device_core.specs.Device.{DeviceState}
 use Rattle.device_core.specs.Events.{Event, Receives, after_event}
@@ -14,7 +13,7 @@ use Rattle.campaign_world.specs.Said.{Said, Own, Reached, Line}
 use Rattle.campaign_world.specs.Making.{device_of, event_of}
 use Rattle.campaign_world.specs.Script.{campaign_of}
 
--- ---- what the lines of a script tell of it
+-- ---- what the lines of a script say of it
 
 -- a device line gives a device, as it is first
 abbrev pub device_in : Line → Option DeviceState
@@ -26,7 +25,7 @@ device_in line = None
 abbrev pub first_devices : (lines : List Line) → List DeviceState
 first_devices lines = filter_map device_in lines
 
--- the time after a line: an `at` line tells it
+-- the time after a line: an `at` line says it
 abbrev pub time_after : (now : ℕ) → Line → ℕ
 time_after now (Ok (Own (At time))) = time
 time_after now line = now
@@ -66,7 +65,7 @@ record_behind lines first group sent id =
 abbrev pub own_record : (lines : List Line) → Option PlanGroup → List SentPayload → (id : ℕ) → Option DeviceState
 own_record lines group sent id = record_behind lines lines group sent id
 
--- whatever image and accepted lines there are
+-- for any image and any accepted lines
 abbrev pub DevicesAreIndependent : Type 0
 DevicesAreIndependent = (image : List ℕ) (lines : List Line) (world : WorldState) (id : ℕ) → campaign_of image lines ≡ Ok world
     → numbered world.devices id ≡ own_record lines world.server.plan.group world.sent id

@@ -22,7 +22,7 @@ pub record IsRunning (image : List ℕ) (slots : Slots) : Type 0 where
 abbrev pub Runs : (image : List ℕ) → List DeviceState → (id : ℕ) → Type 0
 Runs image devices id = (device : DeviceState) × (numbered devices id ≡ Some device) × IsRunning image device.slots
 
--- whatever image file and accepted honest lines there are
+-- for any image file and any accepted honest lines
 abbrev pub TheLedgerIsTrue : Type 0
 TheLedgerIsTrue = (image : List ℕ) (lines : List Line) (world : WorldState) (id : ℕ) → All (λ b. b < 2 ^ 8) image
     → is_image image ≡ true → AllFit world.server.plan.index lines → AreHonest world.server.plan.index lines → campaign_of image lines ≡ Ok world → ledger world.server id ≡ Some Updated

@@ -1,4 +1,4 @@
--- That sessions live: what accepted lines bring about whatever else they do (this project's profile).
+-- That sessions live: what follows from accepted lines, whatever else they do (this project's profile).
 use Rattle.std.specs.Prelude.{◌≡◌, ℕ, ◌^◌, ◌<◌, ◌≤◌, true, false, List, length, All, Some, is_some, Ok}
 use Rattle.frag_session.specs.Setup.{other_descriptor}
 use Rattle.image_slots.specs.Image.{is_image, firmware_of}
@@ -17,8 +17,8 @@ abbrev pub HasItsDevices : Type 0
 HasItsDevices = (image : List ℕ) (lines : List Line) (world : WorldState) → campaign_of image lines ≡ Ok world
     → (1 ≤ length world.devices) × (length world.server.stages ≡ length world.devices)
 
--- where the lines are honest, a device to which a line brought the server's setup, and that takes its descriptor, has its session: the setup of an image
--- always has room
+-- where the lines are honest, a device to which a line brought the server's setup, and that accepts its descriptor, has its
+-- session: there is always room for the setup of an image
 abbrev pub SessionsLive : Type 0
 SessionsLive = (image : List ℕ) (lines : List Line) (world : WorldState) (id : ℕ) (device : DeviceState) (n : ℕ) → All (λ b. b < 2 ^ 8) image
     → is_image image ≡ true → AllFit world.server.plan.index lines → AreHonest world.server.plan.index lines → campaign_of image lines ≡ Ok world → numbered world.devices id ≡ Some device

@@ -1,4 +1,4 @@
--- An answer moves its own stage, and once: ranks of stages, and which answers are past.
+-- An answer moves its own stage, and only once: ranks of stages, and which answers are past.
 use Rattle.std.specs.Prelude.{◌≡◌, ◌≢◌, ℕ, ◌^◌, ◌<◌, true, List, [], ◌∷◌, All, Some, Ok}
 use Rattle.wire_base.specs.declared.refusal.Direction.TheVariants.{Up as Upwards}
 use Rattle.image_slots.specs.Image.{is_image}
@@ -51,13 +51,13 @@ last_moved (Sync (DevUpgradeImageAns status next)) = 5
 last_moved (Sync (DevRebootCountdownAns count)) = 6
 last_moved command = 0
 
--- an answer whose stage is past moves none
+-- an answer to a past stage moves none
 abbrev pub PastMovesNone : Type 0
 PastMovesNone = (plan : Plan) (image : List ℕ) (stage : Stage) (command : Command) → last_moved command < rank stage
     → stage_after plan image stage command ≡ stage
 
--- an uplink of one command that has moved a stage moves none when it comes again, whatever lines came between; those before it
--- are honest
+-- an uplink of one command that has moved a stage moves none when it comes again, whatever lines came between; the lines before
+-- it are honest
 abbrev pub MovesOnce : Type 0
 MovesOnce = (image : List ℕ) (line : Line) (before between : List Line) (number : ℕ) (world later : WorldState) (made : NumberedUplink) (command : Command)
     → All (λ b. b < 2 ^ 8) image → is_image image ≡ true

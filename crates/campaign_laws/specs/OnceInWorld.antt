@@ -11,8 +11,8 @@ use Rattle.campaign_world.specs.Making.{after_up}
 use Rattle.campaign_world.specs.Script.{read_lines}
 use Rattle.campaign_laws.specs.Fields.{AllFit}
 
--- an uplink with this number that has moved a stage of the campaign that is held moves none when it comes again,
--- whatever lines came between; those before it are honest
+-- an uplink with this number that has moved a stage of the held campaign moves none when it comes again, whatever lines came
+-- between; the lines before it are honest
 abbrev pub MovesOnceIn : HeldWorld → (number : ℕ) → Type 0
 MovesOnceIn held number = (image : List ℕ) (line : Line) (before between : List Line) (world later : WorldState)
     → WorldStands held world → All (λ b. b < 2 ^ 8) image → is_image image ≡ true

@@ -1,4 +1,4 @@
--- Power that goes and comes back (this project's profile): `at` the time now in the place of `power` leaves a campaign as it is.
+-- Power that goes and comes back (this project's profile): `at` the time now instead of `power` leaves a campaign unchanged.
 use Rattle.std.specs.Prelude.{◌≡◌, ◌⊎◌, ℕ, List, [], ◌∷◌, Ok}
 use Rattle.script_lines.specs.declared.forms.Form.TheVariants.{At, Power}
 use Rattle.campaign_world.specs.World.{WorldState}
@@ -6,7 +6,7 @@ use Rattle.campaign_world.specs.Said.{Own, Line}
 use Rattle.campaign_world.specs.Script.{campaign_of}
 use Rattle.campaign_laws.specs.Independence.{time_after}
 
--- the other line is the same, or says `at` this time in the place of `power`
+-- the other line is the same, or says `at` this time instead of `power`
 abbrev pub SaysAt : (now : ℕ) → (line other : Line) → Type 0
 SaysAt now line other = (other ≡ line)
     ⊎ ((device : ℕ) × (line ≡ Ok (Own (Power device))) × (other ≡ Ok (Own (At now))))
@@ -17,8 +17,8 @@ SayAt now [] [] = Unit {0}
 SayAt now (line ∷ lines) (other ∷ others) = SaysAt now line other × SayAt (time_after now line) lines others
 SayAt now lines others = ⊥
 
--- whatever image and accepted lines there are, and whichever of their `power` are written as `at` of their moments: the campaign
--- is the same, and so is its report
+-- for any image and any accepted lines, and whichever of their `power` are written as `at` their moments: the campaign is the
+-- same, and so is its report
 abbrev pub PowerIsAt : Type 0
 PowerIsAt = (image : List ℕ) (lines others : List Line) (world : WorldState) → campaign_of image lines ≡ Ok world
     → SayAt 0 lines others → campaign_of image others ≡ campaign_of image lines

@@ -10,7 +10,7 @@ use Rattle.campaign_world.specs.Honest.{AreHonest}
 use Rattle.campaign_laws.specs.Fields.{AllFit}
 use Rattle.campaign_world.specs.Recovery.{recovery_by, recovery}
 
--- whatever image and accepted honest lines there are of a campaign of index 0, what a device recovered is the image
+-- for any image and any accepted honest lines of a campaign of index 0, what a device recovered is the image
 abbrev pub RecoversTheImage : Type 0
 RecoversTheImage = (image : List ℕ) (lines : List Line) (world : WorldState) (id : ℕ) (file : List ℕ) → All (λ b. b < 2 ^ 8) image
     → AllFit 0 lines → AreHonest 0 lines → campaign_of image lines ≡ Ok world → recovery world id ≡ Ok file → file ≡ image

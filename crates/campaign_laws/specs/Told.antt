@@ -1,4 +1,4 @@
--- Where a report says what of a device and of its sessions (this project's profile).
+-- Where a report says what about a device and its sessions (this project's profile).
 use Rattle.std.specs.Prelude.{ℕ, ◌+◌, ◌-◌, List, take, drop, codes}
 use Rattle.std.specs.Fmt.{decimal}
 use Rattle.device_core.specs.Device.{DeviceState}

@@ -58,7 +58,7 @@ Carries lines group sent id n c =
 
 -- the report, with this line in its place, between those of the other sessions
 pub record IsToldOf (world : WorldState) (id : ℕ) (stage : Stage) (device : DeviceState) (index : ℕ) (s : Session) : Type 0 where
-  -- where some fragment is the first after which one file alone fits: its line, and whether that file is the server's image
+  -- where some fragment is the first after which only one file fits: its line, and whether that file is the server's image
   pub complete : (line : ℕ) (file : List ℕ) → FirstAt (shape_of s) s.setup.padding (IsWhole (shape_of s) s.setup.padding file) s.heard line
       → report_of world ≡ report_with_line world id stage device index
       (saying index s (codes "complete at " ++ (decimal line ++ same_word (bytes_eq file world.server.image))))
@@ -81,7 +81,7 @@ pub record IsSessionOf (image : List ℕ) (lines : List Line) (world : WorldStat
   pub index_is : index < 4
   pub session_is : session_at device.sessions index ≡ Some s
 
--- whatever image and accepted lines there are, anybody's payloads in it or none
+-- for any image and any accepted lines, with anybody's payloads or without
 pub record Verdicts : Type 0 where
   -- a session hears nothing but what the lines bring its device, each fragment at its line
   pub heard : (image : List ℕ) (lines : List Line) (world : WorldState) (id : ℕ) (device : DeviceState) (index : ℕ) (s : Session)
@@ -94,7 +94,7 @@ pub record Verdicts : Type 0 where
   pub told : (image : List ℕ) (lines : List Line) (world : WorldState) (id : ℕ) (stage : Stage) (device : DeviceState) (index : ℕ) (s : Session)
       → IsSessionOf image lines world id device index s → ledger world.server id ≡ Some stage
       → IsToldOf world id stage device index s
-  -- and the file that is recovered is the one that alone fits
+  -- and the file that is recovered is the only one that fits
   pub recovered : (image : List ℕ) (lines : List Line) (world : WorldState) (id : ℕ) (device : DeviceState) (s : Session) (file : List ℕ)
       → IsSessionOf image lines world id device 0 s → recovery world id ≡ Ok file
       → (line : ℕ) × FirstAt (shape_of s) s.setup.padding (IsWhole (shape_of s) s.setup.padding file) s.heard line

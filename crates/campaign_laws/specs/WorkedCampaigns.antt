@@ -36,7 +36,7 @@ abbrev pub report_or_fault : Result WorldState LineFault → Result (List ℕ) L
 report_or_fault (Ok world) = Ok (report_of world)
 report_or_fault (Err fault) = Err fault
 
--- what is told of the worked image and a script
+-- what is said of the worked image and a script
 abbrev pub told : (script : List ℕ) → Result (List ℕ) LineFault
 told script = report_or_fault (campaign_of worked_image (said_in script))
 
@@ -68,10 +68,10 @@ roots_behind script = roots_in (campaign_of worked_image (said_in script))
         map (λ planned. planned.root) world.server.plan.devices ++ map (λ device. device.config.root) world.devices
 
 pub record AreReported : Type 0 where
-  -- a device that wakes is set right once
+  -- a device that wakes is corrected once
   pub clock : told (one_device (codes "at 10000\nwake 1\nup 1\ndown 1 1\ndown 1 1\nend\n")) ≡ reported (codes
       "fuota report 1\nimage 52 fragments 4 size 13 padding 0 parity 0\ndevice 1 version clock 0 token 1 running 0 next none\ncounts deaf 0 refused 0 full 0 dropped 0\nend\n")
-  -- an uplink that comes late is answered by the time at which it comes: at 20 s the device's time of 15 s is 5 s behind
+  -- an uplink that comes late is answered by the time at which it comes: at 20 s the device's time of 15 s is 5 s slow
   pub late : told (one_device (codes "at 10000\nwake 1\nat 20000\nup 1\ndown 1 1\nend\n")) ≡ reported (codes
       "fuota report 1\nimage 52 fragments 4 size 13 padding 0 parity 0\ndevice 1 version clock 10 token 1 running 0 next none\ncounts deaf 0 refused 0 full 0 dropped 0\nend\n")
   -- the answer to an uplink is its own device's
@@ -98,7 +98,7 @@ pub record AreReported : Type 0 where
       "fuota 1\nimage 56 0\ndevice 1 c 3 0 0 00000000000000000000000000000000\ndevice 2 c 4 0 0 00000000000000000000000000000000\nask 1\nask 2\ndown 1 1\ndown 2 2\nup 1\nup 2\nend\n")))
       ≡ reported (codes
       "fuota report 1\nimage 56 fragments 1 size 56 padding 0 parity 0\ndevice 1 fragments clock 0 token 0 running 0 next none\ncounts deaf 0 refused 0 full 0 dropped 0\ndevice 2 refused version 1 clock 0 token 0 running 0 next none\ncounts deaf 0 refused 0 full 0 dropped 0\nend\n")
-  -- two of three devices know format 1 alone at first, and the last one learns the other
+  -- two of three devices know only format 1 at first, and the last one learns the other
   pub formats : formats_behind (codes
       "fuota 1\nimage 13 0\ndevice 1 c 1 0 0 00000000000000000000000000000000\ndevice 2 c 1 0 0 00000000000000000000000000000000 v1\ndevice 3 c 1 0 0 00000000000000000000000000000000 0000000a v1\nmigrate 3\nend\n")
       ≡ 2 ∷ 1 ∷ 2 ∷ []
@@ -145,7 +145,7 @@ pub record AreRefused : Type 0 where
   pub other_flash : told (codes
       "fuota 1\nimage 13 0\ndevice 1 c 1 0 0 00000000000000000000000000000000\ndevice 2 c 1 0 0 00000000000000000000000000000000 flash\npower 2\npower 1\n")
       ≡ refused 6 why.Device
-  -- a window of the group is to come
+  -- a window of the group must come
   pub no_window : told (codes
       "fuota 1\nimage 13 0\ngroup 11223344 00000000000000000000000000000000 0 10\ndevice 1 c 1 0 0 00000000000000000000000000000000\n")
       ≡ refused 4 why.Order
@@ -212,7 +212,7 @@ pub record AreCauses : Type 0 where
   pub end_of_devices : is_in_order section.Devices End ≡ true
   pub nothing_behind : is_in_order section.Ended End ≡ false
 
--- ---- what the lines of a plan make: each number in its place
+-- ---- how the lines of a plan change it: each number in its place
 
 -- the plan after a form, and what may come next
 abbrev pub planned_by : Form → Plan
@@ -263,7 +263,7 @@ pub record ArePlanned : Type 0 where
     span = 0;
   }
 
--- ---- two sessions of a stranger's, and what a summary counts
+-- ---- two sessions of a stranger, and what a summary counts
 
 -- device 2 of three is set up by anybody, with sessions of index 1 and 3
 abbrev pub strangers_sessions : List ℕ

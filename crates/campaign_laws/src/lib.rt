@@ -1,6 +1,6 @@
-//! What holds of whole campaigns, whichever lines they have and whichever seed they come from: the headline, the verdicts of
-//! sessions, the independence of devices, the ledger. There is next to no code here: the laws are said of what `campaign_world`
-//! takes and holds, and of what `campaign_generator` makes.
+//! What holds for whole campaigns, whichever lines they have and whichever seed they come from: the headline, the verdicts of
+//! sessions, the independence of devices, the ledger. There is almost no code here: the laws are about what `campaign_world`
+//! takes and holds, and about what `campaign_generator` makes.
 #![tactic(auto)]
 
 mod laws;

@@ -17,11 +17,11 @@ use Rattle.campaign_server.specs.declared.stage.Request.{Request}
 use Rattle.campaign_server.specs.declared.stage.Request.TheVariants.{Version, Group, Fragments, Window, Status, Image, Reboot, Check}
 use Rattle.campaign_server.specs.Plan.{Plan, own_id}
 
--- refused with bits, unless there is none
+-- the stage that an answer moves to, or refused where it has bits
 abbrev pub unless_refused : Request → (bits : ℕ) → Stage → Stage
 unless_refused request bits moved = if bits == 0 then moved else Refused request bits
 
--- an answer with another index or id moves nothing
+-- the stage that an answer moves to; one with another index or id moves nothing
 abbrev pub where_own : (own told : ℕ) → Request → Stage → Stage
 where_own own told request moved = if told == own then moved else At request
 
@@ -46,7 +46,7 @@ after_setup plan index bits =
 abbrev pub window_bits : (undefined freq dr : Bool) → ℕ
 window_bits undefined freq dr = flag_value undefined 16 + flag_value freq 8 + flag_value dr 4
 
--- the answer of the plan's own class alone
+-- only the answer of the plan's own class
 abbrev pub after_window : Plan → (own : Bool) → (id bits : ℕ) → Stage
 after_window plan own id bits =
     if own then where_own (own_id plan.group) id Window (unless_refused Window bits (At Status)) else At Window
@@ -83,7 +83,7 @@ is_class_b (Some window) = kind_is_b window.kind
     kind_is_b kind.C = false
     kind_is_b (kind.B periodicity) = true
 
--- the stage after a command of an uplink: an answer moves its own stage alone
+-- the stage after a command of an uplink: an answer moves only its own stage
 unfoldable pub stage_after : Plan → (image : List ℕ) → Stage → Command → Stage
 stage_after plan image (At Version) (Sync (DevVersionAns firmware hardware)) = after_version plan image hardware
 stage_after plan image (At Group) (Cast (McGroupSetupAns id error)) = after_group plan id error

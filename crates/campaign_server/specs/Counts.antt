@@ -23,7 +23,7 @@ after_call server (Uplink dev port payload t) = (uplink_step server dev port pay
 
 -- ---- counts
 
--- the count that a payload goes with: that of the group's frame, and none by unicast
+-- the count that a payload is sent with: that of the group's frame, and none by unicast
 abbrev pub counts_to : To → List ℕ
 counts_to to.Unicast = []
 counts_to (to.Group addr count) = count ∷ []
@@ -36,7 +36,7 @@ abbrev pub counts_of_status : Option DownlinkCommand → List ℕ
 counts_of_status (Some down) = counts_to down.to
 counts_of_status None = []
 
--- those that one call sends to all with: an uplink is answered by unicast
+-- the counts of what one call sends to all: an uplink is answered by unicast
 abbrev pub counts_of : ServerState → Call → List ℕ
 counts_of server NextFragment = counts_of_sent (next_fragment server)
 counts_of server StatusAll = counts_of_status (status_to_all server)

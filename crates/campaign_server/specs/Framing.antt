@@ -13,7 +13,7 @@ abbrev pub is_to_group : Option PlanGroup → To → Bool
 is_to_group (Some group) (to.Group addr count) = addr == group.addr
 is_to_group group receivers = false
 
--- a payload that has a frame: it is to the plan's group, and its port is no MAC command's, which would be 0
+-- a payload that has a frame: it is to the plan's group, and its port isn't 0, which is that of MAC commands
 abbrev pub has_frame : Option PlanGroup → Downlink → Bool
 has_frame group down = is_to_group group down.to && nat_lt 0 down.port
 
@@ -25,7 +25,7 @@ session_keys group = record { app_s = mc_app_s_key group.key group.addr; net_s =
 abbrev pub group_frame : PlanGroup → (count port : ℕ) → List ℕ → List ℕ
 group_frame group count port payload = frame_of (session_keys group) group.addr 0x00 count port payload
 
--- the same of a payload to whomever; none where it is not to the group
+-- the same for any payload; none where it is not to the group
 abbrev pub frame_to : Option PlanGroup → To → (port : ℕ) → List ℕ → List ℕ
 frame_to (Some group) (to.Group addr count) port payload = group_frame group count port payload
 frame_to group receivers port payload = []

@@ -1,4 +1,4 @@
--- What a server is to do, and which field of it is wrong (this project's profile).
+-- What a server has to do, and which field of it is wrong (this project's profile).
 use Rattle.std.specs.Prelude.{ℕ, ◌^◌, Bool, true, false, ◌&&◌, not, nat_le, nat_lt, if◌then◌else◌, List, length, Option, Some, None}
 use Rattle.frag_model.specs.Limits.{max_pieces, max_frag_size}
 use Rattle.frag_encoder.specs.Encoding.{nb_frag_of}

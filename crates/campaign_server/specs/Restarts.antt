@@ -34,7 +34,7 @@ after_calls server (call ∷ calls) = after_calls (after_call server call) calls
 
 -- ---- with them
 
--- a call, or the server ends and another is restored of the bytes that it saved
+-- a call, or the server ends and another is restored from the bytes that it saved
 pub data Step : Type 0 where
   Calls : Call → Step
   Restarts : Step
@@ -48,7 +48,7 @@ calls_of (Restarts ∷ steps) = calls_of steps
 abbrev pub IsRestored : (server again : ServerState) → Type 0
 IsRestored server again = IsOver server.plan server.image again × (saved_of again ≡ saved_of server)
 
--- what the steps tell, and the server after them
+-- what the steps answer, and the server after them
 abbrev pub Leads : ServerState → List Step → List Told → ServerState → Type 0
 Leads server [] told last = (told ≡ []) × (last ≡ server)
 Leads server (Calls call ∷ steps) told last =
@@ -65,7 +65,7 @@ pub record LastsThroughRestarts : Type 0 where
   -- no two records of one plan and image have the same bytes
   pub apart : (plan : Plan) (image : List ℕ) (a b : ServerState) → IsOver plan image a → IsOver plan image b
       → saved_of a ≡ saved_of b → a ≡ b
-  -- from a new server on, restarts change neither what the calls tell nor the server after them
+  -- from a new server on, restarts change neither what the calls answer nor the server after them
   pub same : (plan : Plan) (image : List ℕ) (steps : List Step) (told : List Told) (last : ServerState)
       → bad_field (length image) plan ≡ None → HasWidth plan.group → Leads (first_server image plan) steps told last
       → let calls = calls_of steps in

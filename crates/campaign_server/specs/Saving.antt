@@ -1,5 +1,5 @@
--- What a server knows, as bytes (this project's profile). Plan and image are not among them: the digest after them says
--- to which they belong. Numbers of several bytes have the lowest first.
+-- What a server knows, as bytes (this project's profile). They have neither plan nor image: the digest after them says to which
+-- they belong. Numbers of several bytes have the lowest first.
 --    0  FUSS, and the format, 1
 --    5  the number of the fragment that is sent next, of 2 bytes
 --    7  the group's next frame count, of 4 bytes; without a group 0
@@ -28,7 +28,7 @@ use Rattle.campaign_server.specs.Plan.{Plan, bad_field}
 use Rattle.campaign_server.specs.Server.{ServerState, IsCount}
 use Rattle.campaign_server.specs.Fragments.{last_fragment}
 
--- ---- the plan, for the digest alone
+-- ---- the plan, only for the digest
 
 abbrev pub group_bytes : Option PlanGroup → List ℕ
 group_bytes None = 0 ∷ []
@@ -97,8 +97,8 @@ saved_of server =
 
 -- ---- of which records
 
--- a record that a server of this plan and image can have: a stage and a status a device, the next fragment one of those that are sent or
--- after them, and the next frame count from the group's MIN to its MAX, a number of four bytes
+-- a record that a server of this plan and image can have: a stage and a status a device, the next fragment one of those that are
+-- sent or after them, and the next frame count from the group's MIN to its MAX, a number of four bytes
 pub record IsOver (plan : Plan) (image : List ℕ) (server : ServerState) : Type 0 where
   pub plan_is : server.plan ≡ plan
   pub image_is : server.image ≡ image

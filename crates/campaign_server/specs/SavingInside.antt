@@ -1,4 +1,4 @@
--- What bytes say of a server's stages, those of a saved server or any others.
+-- A server's fields, read from any bytes.
 use Rattle.std.specs.Prelude.{ℕ, ◌+◌, ◌-◌, ◌*◌, Bool, ◌&&◌, ◌==◌, nat_le, nat_lt, if◌then◌else◌, List, length, map, slice_index, Option, Some, None}
 use Rattle.std.specs.List.{range_with_len}
 use Rattle.campaign_server.specs.declared.plan.PlanGroup.{PlanGroup}
@@ -15,7 +15,7 @@ use Rattle.wire_base.specs.Numbers.{number_at}
 use Rattle.campaign_server.specs.Server.{ServerState}
 use Rattle.campaign_server.specs.Fragments.{last_fragment}
 
--- why there is no server, as why none was restored
+-- the error of restore, from that of new
 abbrev pub restore_error : ServerError → RestoreError
 restore_error new.Memory = restored.Memory
 restore_error (new.BadPlan field) = restored.BadPlan field
@@ -31,7 +31,7 @@ request_of byte =
     else if byte == 6 then Reboot
     else Check
 
--- the stage of two bytes that a stage has; of others any
+-- the stage that these two bytes spell; of any others some stage
 abbrev pub stage_of : (byte bits : ℕ) → Stage
 stage_of byte bits =
     if nat_lt byte 8 then At (request_of byte)
@@ -46,7 +46,7 @@ stage_at bytes k = stage_of (slice_index bytes (12 + 2 * k)) (slice_index bytes 
 abbrev pub stages_in : List ℕ → (number : ℕ) → List Stage
 stages_in bytes number = map (λ k. stage_at bytes k) (range_with_len 0 number)
 
--- the status of four bytes that one has; of others any
+-- the status that these four bytes spell; of any others some status
 abbrev pub status_of : (flags low high missing : ℕ) → Option LastStatus
 status_of flags low high missing =
     if flags == 0 then None

@@ -12,7 +12,7 @@ use Rattle.campaign_server.specs.declared.stage.Stage.TheVariants.{At}
 use Rattle.campaign_server.specs.declared.stage.Request.TheVariants.{Version}
 use Rattle.campaign_server.specs.Plan.{Plan}
 
--- its plan and image; where each device stands, and what it told last of its session; the number of the fragment that is sent
+-- its plan and image; the stage of each device, and what it said last of its session; the number of the fragment that is sent
 -- next, and the group's next frame count
 pub record ServerState : Type 0 where
   pub plan : Plan
@@ -32,7 +32,7 @@ abbrev pub IsCount : Option PlanGroup → (count : ℕ) → Type 0
 IsCount None count = count ≡ 0
 IsCount (Some group) count = (group.min ≤ count) × (count ≤ group.max)
 
--- at its start every device is at version, and has told nothing
+-- at its start every device is at version, and has said nothing
 abbrev pub first_server : List ℕ → Plan → ServerState
 first_server image plan = record {
   plan = plan;
@@ -43,11 +43,11 @@ first_server image plan = record {
   count = first_count plan.group;
 }
 
--- where a device stands: the ledger
+-- the stage of a device: the ledger
 abbrev pub ledger : ServerState → (dev : ℕ) → Option Stage
 ledger server dev = numbered server.stages dev
 
--- what it told last; None where it told nothing
+-- what it said last; None where it said nothing
 abbrev pub last_status : ServerState → (dev : ℕ) → Option (Option LastStatus)
 last_status server dev = numbered server.statuses dev
 

@@ -1,4 +1,4 @@
--- What a device told last of the campaign's session (TS004-1.0.0, FragSessionStatusAns).
+-- What a device said last of the campaign's session (TS004-1.0.0, FragSessionStatusAns).
 use Rattle.std.specs.Prelude.{◌==◌, if◌then◌else◌, List, [], ◌∷◌, Option, Some}
 use Rattle.cast_wire.specs.declared.cmd.Cmd.TheVariants.{FragSessionStatusAns}
 use Rattle.package_grammar.specs.declared.command.Command.{Command}

@@ -17,12 +17,12 @@ pub record UplinkStep : Type 0 where
   pub server : ServerState
   pub answer : Result (Option DownlinkCommand) Refusal
 
--- what a device told; nothing of one that is not there
+-- what a device said; nothing of one that is not there
 abbrev pub told_or_none : Option (Option LastStatus) → Option LastStatus
 told_or_none None = None
 told_or_none (Some told) = told
 
--- the device's stage after the commands, and what it told last
+-- the device's stage after the commands, and what it said last
 abbrev pub with_answers : ServerState → (dev : ℕ) → List Command → Option Stage → ServerState
 with_answers server dev cs None = server
 with_answers server dev cs (Some stage) =

@@ -9,7 +9,7 @@ use Rattle.campaign_server.specs.Server.{ServerState, first_server}
 use Rattle.campaign_server.specs.Saving.{stage_bytes, window_bytes, plan_bytes, state_bytes, saved_of}
 use Rattle.campaign_server.specs.WorkedSteps.{image, alone, grouped, worked_window}
 
--- after a first fragment, with its device refused at the group, which told a status of each byte
+-- after a first fragment; its device was refused at the group, and answered a status of each byte
 abbrev pub after_one : ServerState
 after_one = record (first_server image grouped) {
   stages = Refused Group 4 ∷ [];

@@ -24,7 +24,7 @@ pub record StatusSteps : Type 0 where
       ≡ Some (record told { norows = true }) ∷ []
   pub whole : tells (at_stage alone (At Status)) 1 201 (0x01 ∷ 0xff ∷ 0x3f ∷ 0x00 ∷ 0x00 ∷ [])
       ≡ Some (record { received = 16383; missing = 0; norows = false }) ∷ []
-  -- of the plan's session alone
+  -- only of the plan's session
   pub other_index : tells after_told 1 201 (0x01 ∷ 0x04 ∷ 0x40 ∷ 0x03 ∷ 0x00 ∷ []) ≡ Some told ∷ []
   pub own_index : tells (at_stage elsewhere (At Status)) 1 201 (0x01 ∷ 0x04 ∷ 0x80 ∷ 0x03 ∷ 0x00 ∷ [])
       ≡ Some (record { received = 4; missing = 3; norows = false }) ∷ []
@@ -34,5 +34,5 @@ pub record StatusSteps : Type 0 where
       ≡ Some (record { received = 5; missing = 2; norows = false }) ∷ []
   pub other_command : tells after_told 1 203 (versions 0 1) ≡ Some told ∷ []
   pub refused : tells after_told 1 201 (0x01 ∷ 0x04 ∷ 0x00 ∷ 0x03 ∷ []) ≡ Some told ∷ []
-  -- of the device alone that sent it
+  -- only of the device that sent it
   pub second : tells (first_server image two_devices) 2 201 (0x01 ∷ 0x34 ∷ 0x12 ∷ 0x56 ∷ 0x00 ∷ []) ≡ None ∷ Some told ∷ []

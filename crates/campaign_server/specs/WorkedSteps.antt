@@ -1,4 +1,4 @@
--- Steps of a server that are worked out: what it asks and sends, in bytes, and where answers lead.
+-- Steps of a server, worked out: what it asks and sends, in bytes, and where answers lead.
 use Rattle.std.specs.Prelude.{◌≡◌, ℕ, ◌-◌, ◌^◌, true, false, List, [], ◌∷◌, take, replicate, Option, Some, None, Result, Ok, Err, is_ok}
 use Rattle.wire_base.specs.declared.refusal.Refusal.{Refusal}
 use Rattle.wire_base.specs.declared.refusal.Why.TheVariants as why
@@ -28,7 +28,7 @@ use Rattle.campaign_server.specs.Wrapping.{wrapped_key}
 use Rattle.campaign_server.specs.Sent.{down_of, result_of, answer_of}
 use Rattle.campaign_server.specs.Uplinks.{uplink_step}
 
--- ---- a campaign: an image of hardware 1 and firmware 2, 52 bytes (its digest plays no part here), and one device
+-- ---- a campaign: an image of hardware 1 and firmware 2, 52 bytes (its digest doesn't matter here), and one device
 
 abbrev pub image : List ℕ
 image = 0x46 ∷ 0x55 ∷ 0x49 ∷ 0x4d ∷ 0x01 ∷ 0x01 ∷ 0 ∷ 0 ∷ 0 ∷ 0x02 ∷ 0 ∷ 0 ∷ 0 ∷ 0x03 ∷ 0 ∷ 0 ∷ 0 ∷ replicate 35 0
@@ -62,7 +62,7 @@ of_class_b = record grouped { window = Some (record worked_window { kind = kind.
 abbrev pub two_devices : Plan
 two_devices = record alone { devices = record { key = replicate 16 0; root = V10 } ∷ record { key = replicate 16 1; root = V10 } ∷ [] }
 
--- a server whose device stands at a stage
+-- a server whose device is at a stage
 abbrev pub at_stage : Plan → Stage → ServerState
 at_stage plan stage = record (first_server image plan) { stages = stage ∷ [] }
 
@@ -81,7 +81,7 @@ pub record AskSteps : Type 0 where
   pub own_key : request_of (record (first_server image (record grouped { devices = two_devices.devices })) { stages = At Version ∷ At Group ∷ [] }) 2
       ≡ Some (record { to = to.Unicast; command = Cast (group_request (record { key = replicate 16 1; root = V10 }) worked_group) })
   pub version : asks alone (At Version) ≡ by_unicast 203 (0x01 ∷ [])
-  -- 4 fragments of 13 bytes, or 2 of 50 with 48 of padding; the descriptor is the firmware version, and a group may feed the session
+  -- 4 fragments of 13 bytes, or 2 of 50 with 48 of padding; the descriptor is the firmware version, and a group may feed it
   pub fragments : asks alone (At Fragments) ≡ by_unicast 201 (0x02 ∷ 0x00 ∷ 0x04 ∷ 0x00 ∷ 0x0d ∷ 0x00 ∷ 0x00 ∷ 0x02 ∷ 0x00 ∷ 0x00 ∷ 0x00 ∷ [])
   pub padded : asks (record alone { frag_size = 50 }) (At Fragments)
       ≡ by_unicast 201 (0x02 ∷ 0x00 ∷ 0x02 ∷ 0x00 ∷ 0x32 ∷ 0x00 ∷ 0x30 ∷ 0x02 ∷ 0x00 ∷ 0x00 ∷ 0x00 ∷ [])
@@ -97,7 +97,7 @@ pub record AskSteps : Type 0 where
   pub image_ : asks alone (At Image) ≡ by_unicast 203 (0x04 ∷ [])
   pub reboot : asks alone (At Reboot) ≡ by_unicast 203 (0x03 ∷ 0x00 ∷ 0x00 ∷ 0x00 ∷ [])
   pub check : asks alone (At Check) ≡ by_unicast 203 (0x01 ∷ [])
-  -- the session's index and the group's id, and the mask that has this id's bit alone
+  -- the session's index and the group's id, and the mask that has only this id's bit
   pub by_index : asks elsewhere (At Fragments)
       ≡ by_unicast 201 (0x02 ∷ 0x28 ∷ 0x04 ∷ 0x00 ∷ 0x0d ∷ 0x00 ∷ 0x00 ∷ 0x02 ∷ 0x00 ∷ 0x00 ∷ 0x00 ∷ [])
   pub by_id : request_of (at_stage elsewhere (At Group)) 1
@@ -137,7 +137,7 @@ pub record AnswerSteps : Type 0 where
   pub set_up : leads alone (At Fragments) 201 (0x02 ∷ 0x00 ∷ []) ≡ Some (At Status)
   pub to_window : leads grouped (At Fragments) 201 (0x02 ∷ 0x00 ∷ []) ≡ Some (At Window)
   pub setup_bits : leads alone (At Fragments) 201 (0x02 ∷ 0x0a ∷ []) ≡ Some (Refused Fragments 10)
-  -- each bit alone: encoding, memory, index, descriptor
+  -- each bit by itself: encoding, memory, index, descriptor
   pub encoding : leads alone (At Fragments) 201 (0x02 ∷ 0x01 ∷ []) ≡ Some (Refused Fragments 1)
   pub memory : leads alone (At Fragments) 201 (0x02 ∷ 0x02 ∷ []) ≡ Some (Refused Fragments 2)
   pub index : leads alone (At Fragments) 201 (0x02 ∷ 0x04 ∷ []) ≡ Some (Refused Fragments 4)
@@ -159,7 +159,7 @@ pub record AnswerSteps : Type 0 where
   pub missing : leads alone (At Status) 201 (0x01 ∷ 0x04 ∷ 0x00 ∷ 0x01 ∷ 0x00 ∷ []) ≡ Some (At Status)
   pub other_session : leads alone (At Status) 201 (0x01 ∷ 0x04 ∷ 0x40 ∷ 0x00 ∷ 0x00 ∷ []) ≡ Some (At Status)
   pub no_rows : leads alone (At Status) 201 (0x01 ∷ 0x04 ∷ 0x00 ∷ 0x01 ∷ 0x01 ∷ []) ≡ Some (Refused Status 1)
-  -- a refusal is tried before what moves on, and both for the session that was asked of alone
+  -- a refusal is tried before what moves on, and both only for the session that was asked of
   pub whole_without_rows : leads alone (At Status) 201 (0x01 ∷ 0x04 ∷ 0x00 ∷ 0x00 ∷ 0x01 ∷ []) ≡ Some (Refused Status 1)
   pub others_rows : leads alone (At Status) 201 (0x01 ∷ 0x04 ∷ 0x40 ∷ 0x01 ∷ 0x01 ∷ []) ≡ Some (At Status)
   pub valid : leads alone (At Image) 203 (0x04 ∷ 0x03 ∷ 0x02 ∷ 0x00 ∷ 0x00 ∷ 0x00 ∷ []) ≡ Some (At Reboot)
@@ -183,7 +183,7 @@ pub record AnswerSteps : Type 0 where
   pub window_of_0 : leads elsewhere (At Window) 200 (0x04 ∷ 0x00 ∷ 0x0a ∷ 0x00 ∷ 0x00 ∷ []) ≡ Some (At Window)
   pub status_elsewhere : leads elsewhere (At Status) 201 (0x01 ∷ 0x04 ∷ 0x80 ∷ 0x00 ∷ 0x00 ∷ []) ≡ Some (At Image)
   pub status_of_0 : leads elsewhere (At Status) 201 (0x01 ∷ 0x04 ∷ 0x00 ∷ 0x00 ∷ 0x00 ∷ []) ≡ Some (At Status)
-  -- an answer moves its own stage alone, and a device that was refused or is updated stays so
+  -- an answer moves only its own stage, and a device that was refused or is updated stays so
   pub early_setup : leads alone (At Version) 201 (0x02 ∷ 0x01 ∷ []) ≡ Some (At Version)
   pub early_status : leads alone (At Fragments) 201 (0x01 ∷ 0x04 ∷ 0x00 ∷ 0x00 ∷ 0x01 ∷ []) ≡ Some (At Fragments)
   pub early_image : leads alone (At Status) 203 (0x04 ∷ 0x01 ∷ []) ≡ Some (At Status)

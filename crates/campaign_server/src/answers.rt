@@ -14,7 +14,7 @@ use image_slots::{firmware, is_for};
 use package_grammar::{Command, Message};
 use wire_base::flag_value;
 
-/// Where a device stands after the commands of an uplink, one after another.
+/// Returns the stage and status of a device after the commands of an uplink, one after another.
 pub fn after_all(plan: &Plan, image: &[u8], standing: Standing, mut message: Message) -> Standing
     requires { 49 + further image.now ≤ length image.now }
     ensures stage { result.stage
@@ -33,7 +33,7 @@ pub fn after_all(plan: &Plan, image: &[u8], standing: Standing, mut message: Mes
     Standing { stage, status }
 }
 
-/// The last status after a command of an uplink: that of the campaign's session is kept.
+/// The last status after a command of an uplink: only that of the campaign's session is kept.
 fn status_after(plan: &Plan, status: Option<LastStatus>, command: &Command) -> Option<LastStatus>
     ensures { result ≡ status_after plan.now status command.now }
 {
@@ -60,7 +60,7 @@ fn status_after(plan: &Plan, status: Option<LastStatus>, command: &Command) -> O
     }
 }
 
-/// The stage after a command of an uplink: an answer moves its own stage alone.
+/// The stage after a command of an uplink: an answer moves only its own stage.
 #[tactic(auto, unfolding(crate::specs::Answers::stage_after))]
 fn stage_after(plan: &Plan, image: &[u8], stage: Stage, command: &Command) -> Stage
     requires { 49 + further image.now ≤ length image.now }
@@ -210,7 +210,7 @@ fn after_setup(plan: &Plan, index: u8, bits: u8) -> Stage
     where_own(plan.index, index, Request::Fragments, moved)
 }
 
-/// The answer of the plan's own class alone.
+/// Only the answer of the plan's own class.
 fn after_window(plan: &Plan, own: bool, id: u8, bits: u8) -> Stage
     ensures { result ≡ after_window plan.now own id bits }
 {
@@ -274,7 +274,7 @@ fn window_bits(undefined: bool, freq: bool, dr: bool) -> u8
     flag_value(undefined, 16) + flag_value(freq, 8) + flag_value(dr, 4)
 }
 
-/// Refused with bits, unless there is none.
+/// The stage that an answer moves to, or refused where it has bits.
 fn unless_refused(request: Request, bits: u8, moved: Stage) -> Stage
     ensures { result ≡ unless_refused request bits moved }
 {
@@ -285,7 +285,7 @@ fn unless_refused(request: Request, bits: u8, moved: Stage) -> Stage
     }
 }
 
-/// An answer with another index or id moves nothing.
+/// The stage that an answer moves to; one with another index or id moves nothing.
 fn where_own(own: u8, told: u8, request: Request, moved: Stage) -> Stage
     ensures { result ≡ where_own own told request moved }
 {

@@ -22,8 +22,8 @@ use mc_keys::{Key, kek, wrap_key};
 use package_grammar::Command;
 use sync_wire::FIRMWARE_PORT;
 
-/// The port and the command of a stage's request to a device. There is none at updated and refused, and at a stage whose
-/// part the plan lacks, to which no answer leads.
+/// Returns the port and the command of a stage's request to a device; None at updated and refused, and at a stage that the plan
+/// has no part for; no answer leads there.
 #[tactic(auto, unfolding(crate::specs::Asking::request_at))]
 pub fn request(
     plan: &Plan,
@@ -83,7 +83,7 @@ fn group_request(device: &PlanDevice, group: &PlanGroup) -> Command<'static>
     ensures command { result ≡ Cast (group_request device.now group.now) }
     ensures sent { IsSent 200 result }
 {
-    // each read here, so that the command is known to have numbers of four bytes
+    // each is read here, so that the command is known to have numbers of four bytes
     let _addr = group.addr; // four bytes
     let _min = group.min; // four bytes
     let _max = group.max; // four bytes
@@ -108,11 +108,11 @@ fn wrapped(device: &PlanDevice, key: &Key) -> Key
     block
 }
 
-/// A key is a block of the cipher: that its bytes are bytes is known once one is read.
+/// A key is a block of the cipher; once one byte is read, all are known to be bytes.
 fn told_block(block: &Key)
     ensures { IsBlock block.now }
 {
-    // a block that is read is known to have its 16 bytes
+    // once a byte is read, the block is known to have its 16 bytes
     let _first = first_byte(block);
 }
 
@@ -139,7 +139,7 @@ fn fragments_request(plan: &Plan, encoder: &Encoder) -> Command<'static>
     })
 }
 
-/// The group may feed the session where there is one.
+/// The mask of the group that may feed the session, where there is one.
 fn mask(group: Option<PlanGroup>) -> u8
     requires { GroupFits group }
     ensures value { result ≡ mask_of group }
@@ -158,7 +158,7 @@ fn window_request(id: u8, window: &PlanWindow) -> Command<'static>
     ensures command { result ≡ Cast (window_request id window.now) }
     ensures sent { IsSent 200 result }
 {
-    // each read here, so that the command is known to have numbers of its widths
+    // each is read here, so that the command is known to have numbers of its widths
     let _start = window.start; // four bytes
     let _dr = window.dr; // one byte
     Command::Cast(match window.kind {

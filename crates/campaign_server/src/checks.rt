@@ -20,7 +20,7 @@ const MAX_DEVICES: usize = 64;
 /// The last index of a session, and the last id of a group.
 const MAX_INDEX: u8 = 3;
 
-/// The first field that is wrong, for an image of this length.
+/// Returns the first field that is wrong, for an image of this length; None where no field is.
 #[tactic(auto, using(crate::proofs::Plans::plan_of_none))]
 pub fn bad_field(len: usize, plan: &Plan) -> Option<Field>
     requires { len ≤ max_image }
@@ -99,7 +99,7 @@ fn is_kind(kind: Kind) -> bool
 fn fits_bits(window: &PlanWindow) -> bool
     ensures { result ≡ fits_bits window.now }
 {
-    // both read here: their types alone keep them within their bits
+    // both are read here: only their types keep them within their bits
     let _start = window.start; // four bytes
     let _dr = window.dr; // one byte
     is_kind(window.kind) && window.timeout <= 15 && window.freq < 1 << 24

@@ -29,7 +29,7 @@ pub enum Spent {
     Counts,
 }
 
-/// The group, with the next frame count; without one any device, as unicast.
+/// Returns the group, with the next frame count; without a group any device, as unicast.
 pub fn receivers(group: Option<PlanGroup>, count: u32) -> To
     ensures { result ≡ receivers group count }
 {
@@ -42,7 +42,7 @@ pub fn receivers(group: Option<PlanGroup>, count: u32) -> To
     }
 }
 
-/// Whether the group's frame counts are used up.
+/// Says whether the group's frame counts are used up.
 pub fn has_no_count(group: Option<PlanGroup>, count: u32) -> bool
     ensures { result ≡ has_no_count group count }
 {
@@ -52,7 +52,7 @@ pub fn has_no_count(group: Option<PlanGroup>, count: u32) -> bool
     }
 }
 
-/// The first frame count, the group's MIN.
+/// Returns the first frame count, the group's MIN.
 pub fn first_count(group: Option<PlanGroup>) -> u32
     ensures { result ≡ first_count group }
 {
@@ -62,7 +62,7 @@ pub fn first_count(group: Option<PlanGroup>) -> u32
     }
 }
 
-/// Whether the group's next frame count can be this: from its MIN to its MAX, and without a group 0.
+/// Says whether the group's next frame count can be this: from its MIN to its MAX, and 0 without a group.
 pub fn is_count(group: Option<PlanGroup>, count: u32) -> bool
     ensures value { result ≡ is_count group count }
     ensures within { result ≡ true → IsCount group count }
@@ -73,7 +73,7 @@ pub fn is_count(group: Option<PlanGroup>, count: u32) -> bool
     }
 }
 
-/// The frame count after this one.
+/// Returns the frame count after this one.
 pub fn next_count(group: Option<PlanGroup>, count: u32) -> u32
     requires within { IsCount group count }
     requires more { has_no_count group count ≡ false }
@@ -86,7 +86,7 @@ pub fn next_count(group: Option<PlanGroup>, count: u32) -> u32
     }
 }
 
-/// Fragment n of the image.
+/// Makes fragment n of the image (TS004-1.0.0, DataFragment).
 pub fn fragment(plan: &Plan, encoder: &Encoder, to: To, n: u16) -> Downlink
     requires cut { IsCut plan.now encoder.now }
     requires first { 1 ≤ n }
@@ -121,7 +121,7 @@ fn encode(plan: &Plan, encoder: &Encoder, n: u16, part: &mut ArrayVec<u8, MAX_FR
     }
 }
 
-/// FragSessionStatusReq to all, answered by devices that miss a fragment.
+/// Makes a FragSessionStatusReq (TS004-1.0.0, 3.2) to all, answered by devices that miss a fragment.
 pub fn status_of_all(plan: &Plan, to: To) -> Downlink
     requires { plan.now.index ≤ max_index }
     ensures { let command = Cast (FragSessionStatusReq plan.now.index false) in

@@ -1,4 +1,4 @@
-//! What makes frames of payloads to the group.
+//! The frames of payloads to the group.
 
 ghost use Rattle.std.specs.Prelude.{◌≡◌, option_map};
 ghost use Rattle.campaign_server.specs.Framing.{is_to_group, session_keys};
@@ -8,7 +8,7 @@ use mc_frames::Keys;
 use mc_keys::{app_s_key, net_s_key};
 use package_grammar::To;
 
-/// Whether a payload is to the plan's group.
+/// Says whether a payload is to the plan's group.
 pub fn is_to_group(group: Option<PlanGroup>, to: To) -> bool
     ensures { result ≡ is_to_group group to }
 {
@@ -18,7 +18,7 @@ pub fn is_to_group(group: Option<PlanGroup>, to: To) -> bool
     }
 }
 
-/// The session keys of the plan's group; None where the plan has no group.
+/// Returns the session keys of the plan's group; None where the plan has no group.
 pub fn keys_of(group: Option<PlanGroup>) -> Option<Keys>
     ensures { result ≡ option_map session_keys group }
 {

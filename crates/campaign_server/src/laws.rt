@@ -1,4 +1,4 @@
-//! What holds of the definitions alone.
+//! Laws about the definitions, each the contract of a function with an empty body.
 
 ghost use Rattle.std.specs.Prelude.{◌≡◌, ◌<◌, ◌≤◌, ◌+◌, length, List, ℕ, Err};
 ghost use Rattle.wire_base.specs.Payload.{max_payload};
@@ -29,14 +29,14 @@ ghost use Rattle.campaign_server.specs.WorkedSteps.{AskSteps, AnswerSteps, TimeS
 
 use mc_frames::frame_holds_what_it_was_made_of;
 
-/// The wrapped key that the server sends is the one block that is unwrapped to the group's key: what `wrap_key` answers.
+/// The wrapped key that the server sends is the one block that is unwrapped to the group's key; `wrap_key` returns it.
 pub fn wrapped_key_is_the_one()
     ensures { (kek key block : List ℕ) → IsBlock block → mc_key kek block ≡ key
         → ((x : List ℕ) → IsBlock x → mc_key kek x ≡ key → x ≡ block)
         → wrapped_key kek key ≡ block }
 {}
 
-/// The request for a group carries what a device unwraps to the group's key, under the key that it derives of its own.
+/// The request for a group has what a device unwraps to the group's key, under the key that it derives from its own.
 pub fn a_device_unwraps_the_key()
     ensures { (device : PlanDevice) (block : List ℕ) (group : PlanGroup)
         → let kek = mc_ke_key (root_of device.root device.key) in
@@ -46,7 +46,7 @@ pub fn a_device_unwraps_the_key()
         ≡ McGroupSetupReq group.id group.addr block group.min group.max }
 {}
 
-/// What the server sends to its group is opened with the group's session keys, to its count, port and payload: where the
+/// A frame that the server sends to its group is opened with the group's session keys to its count, port and payload, where the
 /// count is from MIN to below MAX, and one of the 65,536 from MIN on.
 pub fn a_frame_is_opened()
     ensures { (group : PlanGroup) (count port : ℕ) (payload : List ℕ)
@@ -58,7 +58,7 @@ pub fn a_frame_is_opened()
     frame_holds_what_it_was_made_of()
 }
 
-/// An answer that comes again does nothing more.
+/// An answer that comes again changes nothing more.
 #[tactic(auto, unfolding(crate::specs::Answers::stage_after))]
 pub fn an_answer_moves_once()
     ensures { (plan : Plan) (image : List ℕ) (stage : Stage) (command : Command)
@@ -90,8 +90,8 @@ pub fn a_count_is_sent_once()
     ensures { CountsOnce }
 {}
 
-/// No two servers of one plan and image have the same saved bytes; and over any run of calls of a new server, ends and
-/// restored servers between them change neither what the calls answer nor the server after them.
+/// No two servers of one plan and image have the same saved bytes. Over any run of calls of a new server, restarts between the
+/// calls change neither what they answer nor the server after them.
 #[tactic(auto, using(crate::proofs::Restarts::lasts))]
 pub fn a_server_lasts_through_restarts()
     ensures { LastsThroughRestarts }

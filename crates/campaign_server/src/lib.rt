@@ -1,8 +1,7 @@
-//! The server of a firmware campaign over LoRaWAN (TS003 to TS006, 1.0.0; the order of its stages is this project's profile).
-//! What it asks of each device, what it sends to all, and where an answer leads is one step function over a record that its
-//! contracts see: the plan, the image, a stage and a last status for each device, the next fragment and the group's next
-//! frame count.
-//! When anything is sent, and whether it arrives, is left to the caller.
+//! The server of a firmware campaign over LoRaWAN (TS003 to TS006, 1.0.0; the order of its stages is this project's profile). One
+//! step function over a record says what it asks of each device, what it sends to all, and where an answer leads. Contracts see
+//! that record: the plan, the image, a stage and a last status for each device, the next fragment and the group's next frame
+//! count. When anything is sent, and whether it arrives, is left to the caller.
 //!
 //!     let mut server = Server::new(alloc, plan, image)?;       // `image` is an image file
 //!     let request = server.ask(1);                             // what device 1 is to be sent next
@@ -10,7 +9,7 @@
 //!     let frame = server.frame(&fragment);                     // of a plan with a group: the bytes on air
 //!     let answer = server.uplink(1, port, payload, t)?;        // moves its stage
 //!     let stage = server.ledger(1);
-//!     let told = server.last_status(1);                        // how many pieces it missed when it last told
+//!     let status = server.last_status(1);                      // how many pieces it missed when it last answered
 #![tactic(auto)]
 
 mod answers;

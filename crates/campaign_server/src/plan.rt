@@ -1,4 +1,4 @@
-//! What a server is to do.
+//! What a server has to do.
 
 ghost use Rattle.std.specs.Prelude.{◌≡◌, ◌≤◌};
 ghost use Rattle.campaign_server.specs.Plan.{own_id, max_index};
@@ -7,7 +7,7 @@ ghost use Rattle.campaign_server.specs.ServerInside.{GroupFits};
 use mc_keys::RootKind;
 use std::marker::Model;
 
-/// A multicast group of a campaign. It has no text, so that its key comes into no log.
+/// A multicast group of a campaign (TS005-1.0.0, McGroupSetupReq). It has no text, so that its key gets into no log.
 #[derive(Clone, Copy)]
 pub struct PlanGroup {
     /// McGroupID, 0 to 3, the same on every device.
@@ -32,7 +32,7 @@ pub enum Kind {
     },
 }
 
-/// When the group is heard.
+/// When the group is heard (TS005-1.0.0, McClassCSessionReq and McClassBSessionReq).
 #[derive(Clone, Copy, Debug)]
 pub struct PlanWindow {
     pub kind: Kind,
@@ -46,28 +46,30 @@ pub struct PlanWindow {
     pub dr: u8,
 }
 
-/// A device of a campaign. It has no text, so that its key comes into no log.
+/// A device of a campaign. It has no text, so that its key gets into no log.
 #[derive(Clone, Copy)]
 pub struct PlanDevice {
     /// GenAppKey, or AppKey where `root` is `V11`.
     pub key: [u8; 16],
-    /// By which version of LoRaWAN the root key of multicast keys is made of `key`.
+    /// The version of LoRaWAN by which the root key of multicast keys is made from `key`.
     pub root: RootKind,
 }
 
-/// What a server is to do: how the image is cut, how many coded fragments follow, the index of its session, the group and its
+/// What a server has to do: how the image is cut, how many coded fragments follow, the index of its session, the group and its
 /// window, or neither, and the devices, numbered from 1 in this order.
 #[derive(Drop)]
 pub struct Plan {
-    /// Bytes a fragment, 1 to 239.
+    /// Bytes of a fragment, FragSize, 1 to 239.
     pub frag_size: u8,
-    /// Coded fragments, 0 to 512.
+    /// The number of coded fragments, 0 to 512.
     pub parity: u16,
     /// FragIndex of its session, 0 to 3, the same on every device.
     pub index: u8,
+    /// The group, or None for a campaign by unicast.
     pub group: Option<PlanGroup>,
+    /// The group's window; None exactly without a group.
     pub window: Option<PlanWindow>,
-    /// 1 to 64.
+    /// The devices, 1 to 64.
     pub devices: Vec<PlanDevice>,
 }
 
@@ -93,7 +95,7 @@ pub(crate) fn own_id(group: Option<PlanGroup>) -> u8
 /// A field of a plan that is wrong.
 #[derive(Clone, Copy, Debug, PartialEq, Eq)]
 pub enum Field {
-    /// The bytes a fragment are not 1 to 239, or cut the image into more than 4,096 fragments.
+    /// The bytes of a fragment are not 1 to 239, or cut the image into more than 4,096 fragments.
     FragSize,
     /// There are more than 512 coded fragments.
     Parity,

@@ -1,5 +1,5 @@
-//! What a server knows, as bytes, and what such bytes say. Plan and image are not among them, only a digest of them: so no
-//! key is.
+//! What a server knows, as bytes, and what such bytes say. They have neither plan nor image, only a digest of them, and so no
+//! key.
 
 ghost use Rattle.std.specs.Prelude.{◌≡◌, ◌+◌, ◌*◌, ◌≤◌, ◌++◌, length};
 ghost use Rattle.std.specs.List.{flat_map};
@@ -20,7 +20,7 @@ use wire_base::flag_value;
 /// The most bytes of a saved server: 12, six for each of 64 devices, and a digest of 32.
 pub const MAX_SAVED: usize = 428;
 
-/// What a server knows, as bytes. They lie in the value itself.
+/// What a server knows, as bytes held in the value itself.
 pub type SavedServer = ArrayVec<u8, MAX_SAVED>;
 
 /// The most bytes of a plan: 4, of group and window 30 and 12, the number of devices, and 17 for each of 64.
@@ -28,7 +28,7 @@ const MAX_PLAN: usize = 1135;
 
 type PlanBytes = ArrayVec<u8, MAX_PLAN>;
 
-/// Where the stages begin.
+/// The place where the stages begin.
 pub(crate) const HEAD: usize = 12;
 
 /// Why no server was restored.
@@ -45,7 +45,7 @@ pub enum RestoreError {
     Corrupt,
 }
 
-/// Why there is no server, as why none was restored.
+/// Makes the error of `restore` from that of `new`.
 pub fn restore_error(error: ServerError) -> RestoreError
     ensures { result ≡ restore_error error }
 {
@@ -55,7 +55,7 @@ pub fn restore_error(error: ServerError) -> RestoreError
     }
 }
 
-/// The bytes of a server with this plan, image, stages and statuses, and these next numbers.
+/// Makes the bytes of a server with this plan, image, stages and statuses, and these next numbers.
 #[tactic(auto, unfolding(crate::specs::Saving::saved_of, crate::specs::Saving::state_bytes))]
 pub fn saved_of(
     plan: &Plan,
@@ -177,7 +177,7 @@ fn request_byte(request: Request) -> u8
     }
 }
 
-/// Puts the stages that bytes say in place of these.
+/// Replaces these stages by those that bytes say.
 pub fn read_stages(stages: &mut [Stage], bytes: &[u8])
     requires { 12 + 2 * length stages.old ≤ length bytes.now }
     ensures { stages.new ≡ stages_in bytes.now (length stages.old) }
@@ -187,7 +187,7 @@ pub fn read_stages(stages: &mut [Stage], bytes: &[u8])
     }
 }
 
-/// Puts the statuses that bytes say in place of these.
+/// Replaces these statuses by those that bytes say.
 pub fn read_statuses(statuses: &mut [Option<LastStatus>], bytes: &[u8])
     requires { 12 + 6 * length statuses.old ≤ length bytes.now }
     ensures { statuses.new ≡ statuses_in bytes.now (length statuses.old) }
@@ -208,7 +208,7 @@ fn status_at(bytes: &[u8], number: usize, k: usize) -> Option<LastStatus>
     status_of(bytes[at], bytes[at + 1], bytes[at + 2], bytes[at + 3])
 }
 
-/// The status of four bytes that one has; of others any.
+/// The status that these four bytes spell; of any others some status.
 fn status_of(flags: u8, low: u8, high: u8, missing: u8) -> Option<LastStatus>
     ensures { result ≡ status_of flags low high missing }
 {
@@ -232,7 +232,7 @@ fn stage_at(bytes: &[u8], k: usize) -> Stage
     stage_of(bytes[at], bytes[at + 1])
 }
 
-/// The stage of two bytes that a stage has; of others any.
+/// The stage that these two bytes spell; of any others some stage.
 fn stage_of(byte: u8, bits: u8) -> Stage
     ensures { result ≡ stage_of byte bits }
 {

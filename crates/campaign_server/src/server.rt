@@ -64,7 +64,7 @@ impl From<AllocError> for ServerError {
     }
 }
 
-/// The server of a campaign. Its memory is taken in `new`.
+/// The server of a campaign. Its memory is taken in `new` and `restore`.
 #[derive(Drop)]
 pub struct Server {
     plan: Plan,
@@ -73,7 +73,7 @@ pub struct Server {
     statuses: Vec<Option<LastStatus>>,
     next: u16,
     count: u32,
-    /// The session keys of the plan's group, which no frame derives anew.
+    /// The session keys of the plan's group, so that no frame derives them anew.
     keys: Option<Keys>,
 }
 
@@ -93,8 +93,9 @@ impl Model for Server {
 
 impl Server {
     #[tactic(auto, using(crate::proofs::Plans::starts, image_slots::proofs::ImageLemmas::image_bounds))]
-    /// The server at the start of a campaign that sends this image, which is to be an image file: each device is at version.
-    /// `BadPlan` comes exactly where a field of the plan is wrong, and names the first.
+    /// Makes the server at the start of a campaign that sends this image, which must be an image file; each device is at the
+    /// stage `Version`. `BadPlan` comes exactly where a field of the plan is wrong, and names the first; `Memory` where memory is
+    /// missing.
     pub fn new(alloc: Global, plan: Plan, image: &[u8]) -> Result<Server, ServerError>
         requires { is_image image.now ≡ true }
         ensures ok { IfOk result (λ s. s ≡ first_server image.now plan) }
@@ -130,7 +131,7 @@ impl Server {
         })
     }
 
-    /// What it knows, as bytes that `restore` takes again: to be kept before what it sends next goes out. They say which
+    /// Returns what it knows as bytes that `restore` takes again: to be stored before its next payload goes out. They say which
     /// plan and image they belong to, and hold neither. It takes no memory.
     pub fn save(&self) -> SavedServer
         ensures { result.items ≡ saved_of self.now }
@@ -145,8 +146,9 @@ impl Server {
         )
     }
 
-    /// The server whose bytes these are, with this plan and image, which is to be an image file. `BadPlan` comes as at
-    /// `new`, and before `Corrupt`, which comes where no server of this plan and image has these bytes.
+    /// Restores the server of these bytes, with this plan and image, which must be an image file. `BadPlan` comes as at `new`,
+    /// and before `Corrupt`, which comes where no server of this plan and image has these bytes; `Memory` where memory is
+    /// missing.
     #[tactic(auto, using(crate::proofs::SavedBytes::read_back, crate::proofs::SavedBytes::over_told))]
     pub fn restore(
         alloc: Global,
@@ -173,7 +175,7 @@ impl Server {
         }
     }
 
-    /// Takes the fields of bytes that need not be those of a server. False, where one is out of range, changes nothing.
+    /// Takes the fields of bytes that may not be a server's; false, with nothing changed, where one is out of range.
     fn take(&mut self, bytes: &[u8]) -> bool
         ensures value { result ≡ fits self.old bytes.now }
         ensures taken { result ≡ true → self.new ≡ told_of self.old bytes.now }
@@ -199,8 +201,8 @@ impl Server {
         true
     }
 
-    /// What the server asks of device `dev` now, by unicast. None at updated and refused, and at a stage whose part the
-    /// plan lacks, to which no answer leads.
+    /// Returns what the server asks of device `dev` now, by unicast; None at updated and refused, and at a stage that the plan
+    /// has no part for; no answer leads there.
     pub fn ask(&self, dev: u8) -> Option<Downlink>
         requires first { 1 ≤ dev }
         requires last { dev ≤ length self.now.plan.devices }
@@ -212,7 +214,7 @@ impl Server {
         Some(unicast(port, &command))
     }
 
-    /// Whether a next fragment can be sent.
+    /// Says whether a next fragment can be sent.
     #[tactic(auto, unfolding(crate::specs::Fragments::next_fragment))]
     pub fn has_fragment(&self) -> bool
         ensures { result ≡ is_ok (next_fragment self.now) }
@@ -221,9 +223,8 @@ impl Server {
             && !has_no_count(self.plan.group, self.count)
     }
 
-    /// The next fragment to all devices: by the group with its next frame count, else as unicast.
-    /// `Fragments` comes exactly where all were sent, and else `Counts` exactly where the next count is the group's MAX;
-    /// nothing changes then.
+    /// Makes the next fragment to all devices: by the group with its next frame count, else as unicast. `Fragments` comes exactly
+    /// where all were sent, and else `Counts` exactly where the next count is the group's MAX; then nothing changes.
     #[tactic(auto, unfolding(crate::specs::Fragments::next_fragment, crate::specs::Fragments::after_fragment))]
     pub fn next_fragment(&mut self) -> Result<Downlink, Spent>
         ensures sent { result ≡ result_of (next_fragment self.old) }
@@ -243,7 +244,7 @@ impl Server {
         Ok(down)
     }
 
-    /// Whether all devices can be asked for their status.
+    /// Says whether all devices can be asked for their status.
     #[tactic(auto, unfolding(crate::specs::Fragments::status_to_all))]
     pub fn has_status(&self) -> bool
         ensures { result ≡ is_some (status_to_all self.now) }
@@ -251,8 +252,8 @@ impl Server {
         !has_no_count(self.plan.group, self.count)
     }
 
-    /// FragSessionStatusReq to all devices, answered by those that miss a fragment: by the group with its next frame count,
-    /// else as unicast. None exactly where that count is the group's MAX.
+    /// Makes a FragSessionStatusReq (TS004-1.0.0, 3.2) to all devices, answered by those that miss a fragment: by the group with
+    /// its next frame count, else as unicast. None exactly where that count is the group's MAX.
     #[tactic(auto, unfolding(crate::specs::Fragments::status_to_all, crate::specs::Fragments::after_status_to_all))]
     pub fn status_all(&mut self) -> Option<Downlink>
         ensures sent { result ≡ down_of (status_to_all self.old) }
@@ -267,15 +268,15 @@ impl Server {
         Some(down)
     }
 
-    /// Whether a payload has a frame: it is to the plan's group, and its port isn't 0.
+    /// Says whether a payload has a frame: it is to the plan's group, and its port isn't 0.
     pub fn has_frame(&self, down: &Downlink) -> bool
         ensures { result ≡ has_frame self.now.plan.group down.now }
     {
         is_to_group(self.plan.group, down.to) && down.port > 0
     }
 
-    /// A payload to the plan's group, on a port that isn't 0 (`has_frame`), as the frame that goes out, at most 255 bytes,
-    /// under the group's session keys.
+    /// Makes the frame, at most 255 bytes, of a payload to the plan's group on a port that isn't 0 (`has_frame`), under the
+    /// group's session keys.
     pub fn frame(&self, down: &Downlink) -> Frame
         requires { has_frame self.now.plan.group down.now ≡ true }
         ensures { result.items ≡ frame_for self.now.plan.group down.now }
@@ -288,9 +289,8 @@ impl Server {
         }
     }
 
-    /// An uplink of device `dev` comes on a port, at `t` ms of GPS time: its commands move the device's stage in order,
-    /// and the first AppTimeReq that needs an answer gets one. A payload that is no message is refused and changes
-    /// nothing.
+    /// Takes an uplink of device `dev` on a port, at `t` ms of GPS time: its commands move the device's stage in order, and the
+    /// first AppTimeReq that needs an answer gets one. A payload that is no message is refused and changes nothing.
     pub fn uplink(
         &mut self,
         dev: u8,
@@ -318,7 +318,7 @@ impl Server {
         Ok(answer)
     }
 
-    /// Where device `dev` stands.
+    /// Returns the stage of device `dev`.
     pub fn ledger(&self, dev: u8) -> Stage
         requires first { 1 ≤ dev }
         requires last { dev ≤ length self.now.plan.devices }
@@ -327,8 +327,9 @@ impl Server {
         numbered(&self.stages, dev)
     }
 
-    /// What device `dev` told last of the campaign's session, at whichever stage: how many fragments it heard and how many
-    /// pieces it missed, by which an operator chooses how many coded ones to send. None where it told nothing.
+    /// Returns what device `dev` answered last of the campaign's session (FragSessionStatusAns), at any stage: how many fragments
+    /// it heard and how many pieces it missed, by which an operator chooses how many coded fragments to send. None where it never
+    /// answered.
     pub fn last_status(&self, dev: u8) -> Option<LastStatus>
         requires first { 1 ≤ dev }
         requires last { dev ≤ length self.now.plan.devices }
@@ -337,42 +338,42 @@ impl Server {
         numbered(&self.statuses, dev)
     }
 
-    /// What it is to do.
+    /// Returns its plan.
     pub fn plan(&self) -> &Plan
         ensures { result.now ≡ self.now.plan }
     {
         &self.plan
     }
 
-    /// The image that is sent.
+    /// Returns the image that is sent.
     pub fn image(&self) -> &[u8]
         ensures { result.now ≡ self.now.image }
     {
         self.encoder.file()
     }
 
-    /// Bytes a fragment.
+    /// Returns the bytes of a fragment.
     pub fn frag_size(&self) -> u8
         ensures { result ≡ self.now.plan.frag_size }
     {
         self.plan.frag_size
     }
 
-    /// The number of uncoded fragments, 1 to 4,096.
+    /// Returns the number of uncoded fragments, 1 to 4,096.
     pub fn nb_frag(&self) -> u16
         ensures { result ≡ nb_frag_of (length self.now.image) self.now.plan.frag_size }
     {
         self.encoder.nb_frag()
     }
 
-    /// The zero bytes that fill the last uncoded fragment up.
+    /// Returns the number of zero bytes that fill the last uncoded fragment up.
     pub fn padding(&self) -> u8
         ensures { result ≡ padding_of (length self.now.image) self.now.plan.frag_size }
     {
         self.encoder.padding()
     }
 
-    /// The coded fragments that follow the uncoded ones, 0 to 512.
+    /// Returns the number of coded fragments that follow the uncoded ones, 0 to 512.
     pub fn parity(&self) -> u16
         ensures { result ≡ self.now.plan.parity }
     {

@@ -7,7 +7,7 @@ ghost use Rattle.campaign_server.specs.Sent.{IsSent, unicast_of};
 use package_grammar::{Command, Downlink, To, spell};
 use wire_base::Direction;
 
-/// A command on its way to devices.
+/// Makes the downlink of a command to devices.
 pub fn downlink(to: To, port: u8, command: &Command) -> Downlink
     requires { IsSent port command.now }
     ensures { result ≡ downlink_of (record { to = to; command = command.now }) }
@@ -19,7 +19,7 @@ pub fn downlink(to: To, port: u8, command: &Command) -> Downlink
     down
 }
 
-/// A command on its way to one device.
+/// Makes the downlink of a command to one device.
 pub fn unicast(port: u8, command: &Command) -> Downlink
     requires { IsSent port command.now }
     ensures { result ≡ unicast_of command.now }

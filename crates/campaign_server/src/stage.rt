@@ -1,4 +1,4 @@
-//! Where a device stands with its server.
+//! A device as its server sees it.
 
 /// What the server asks of a device: a row of its table.
 #[derive(Clone, Copy, Debug, PartialEq, Eq)]
@@ -21,25 +21,25 @@ pub enum Request {
     Check,
 }
 
-/// Where a device stands with its server.
+/// The stage of a device.
 #[derive(Clone, Copy, Debug, PartialEq, Eq)]
 pub enum Stage {
-    /// The answer to this request is what moves it on.
+    /// It moves on with the answer to this request.
     At(Request),
     /// It runs the campaign's image.
     Updated,
-    /// An answer refused the campaign, with these bits: at `Version` 1, the image is not for the hardware; at `Group` 4,
-    /// IDerror; at `Fragments` those of FragSessionSetupAns; at `Window` 16 no such group, 8 the frequency, 4 the data
-    /// rate; at `Status` 1, too little memory for the matrix; at `Image` the status of DevUpgradeImageAns.
+    /// An answer refused the campaign, with these bits: at `Version` 1, the image is not for the hardware; at `Group` 4, IDerror;
+    /// at `Fragments` those of FragSessionSetupAns; at `Window` 16 no such group, 8 the frequency, 4 the data rate; at `Status`
+    /// 1, too little memory for the matrix; at `Image` the status of DevUpgradeImageAns.
     Refused { request: Request, bits: u8 },
 }
 
-/// What a device told of the campaign's session in its last FragSessionStatusAns (TS004-1.0.0, 3.2).
+/// What a device said of the campaign's session in its last FragSessionStatusAns (TS004-1.0.0, 3.2).
 #[derive(Clone, Copy, Debug, PartialEq, Eq)]
 pub struct LastStatus {
-    /// Fragments that it heard, repeats included, at most 16,383.
+    /// The fragments that it heard, repeats included, at most 16,383.
     pub received: u16,
-    /// Pieces still to be gained, at most 255, which stands for more too.
+    /// The pieces still to be gained; 255 where they are 255 or more.
     pub missing: u8,
     /// Whether it had too little memory for the matrix.
     pub norows: bool,

@@ -11,7 +11,7 @@ use crate::stage::{LastStatus, Request, Stage};
 use frag_encoder::{Encoder, EncoderError};
 use std::alloc::{AllocError, Global};
 
-/// The encoder of an image, cut as the plan says.
+/// Makes the encoder of an image, cut as the plan says.
 pub fn cut(alloc: Global, plan: &Plan, image: &[u8]) -> Result<Encoder, AllocError>
     requires image { is_image image.now ≡ true }
     requires fine { IsPlan (length image.now) plan.now }
@@ -24,7 +24,7 @@ pub fn cut(alloc: Global, plan: &Plan, image: &[u8]) -> Result<Encoder, AllocErr
     }
 }
 
-/// So many devices at version.
+/// Makes the stages of so many devices, each `Version`.
 pub fn first_stages(alloc: Global, count: usize) -> Result<Vec<Stage>, AllocError>
     requires { count ≤ 64 }
     ensures { IfOk result (λ stages. stages.items ≡ replicate count (At Version)) }
@@ -34,7 +34,7 @@ pub fn first_stages(alloc: Global, count: usize) -> Result<Vec<Stage>, AllocErro
     Ok(stages)
 }
 
-/// So many devices that told nothing.
+/// Makes the statuses of so many devices that have sent none.
 pub fn first_statuses(alloc: Global, count: usize) -> Result<Vec<Option<LastStatus>>, AllocError>
     requires { count ≤ 64 }
     ensures { IfOk result (λ statuses. statuses.items ≡ replicate count None) }

@@ -13,7 +13,8 @@ use clock_sync::{answer_needed, correction};
 use package_grammar::{Command, Downlink, Message};
 use sync_wire::{CLOCK_PORT, Cmd};
 
-/// The answer to the first AppTimeReq of an uplink that needs one, at t ms of true time.
+/// Makes the answer to the first AppTimeReq of an uplink that needs one, at t ms of true time (TS003-1.0.0); None where none
+/// does.
 pub fn time_answer(t: u64, mut message: Message) -> Option<Downlink>
     ensures { result ≡ down_of (by_unicast (time_answer t message.entry.commands)) }
 {

@@ -1,4 +1,4 @@
--- A campaign beside another one: a payload that reaches one of its devices, and its devices' lines in a report.
+-- A campaign next to another one: a payload that reaches one of its devices, and its devices' lines in a report.
 use Rattle.std.proofs.Common.{◌≡◌, ℕ, ◌≤◌, ◌<◌, ◌-◌, zero, suc, Bool, true, false, ◌==◌, List, [], ◌∷◌, length, slice_get, Option, Some, None, Result, refl, sym, ap, subst, arith}
 use Rattle.std.proofs.lemmas.Bool.Decides.{nat_tests}
 use Rattle.std.specs.declared.alloc.AllocError.{AllocError}

@@ -304,7 +304,7 @@ header_at s f is comes = by_section s (rw is at comes)
     by_section place.Events comes = absurd cc
     by_section place.Ended comes = absurd cc
 
--- without a group no window is wanted
+-- without a group no window is needed
 alone : (plan : Plan) → plan.group ≡ None → plan.window ≡ None → IsWindowed plan
 alone plan no_group no_window = rw (no_group, no_window) refl
 
@@ -413,7 +413,7 @@ cuts_well image count f frag_size parity index is ranges fits =
     let low : (nat_le 1 frag_size && nat_le frag_size 239) ≡ true = first.0 in
     (rw (low, number) refl, leb-true _ _ (and_parts _ _ first.0).1, leb-true _ _ first.1, leb-true _ _ whole.1)
 
--- a device knows image format 1 alone, or both
+-- a device knows only image format 1, or both
 pub known_formats : (v1 : Bool) → (nat_le 1 (formats_of v1) && nat_le (formats_of v1) max_formats) ≡ true
 known_formats true = refl
 known_formats false = refl

@@ -46,7 +46,7 @@ empty_by config (Some held) d rests = outbox_is held d rests.stands ∙ rests.em
 pub rests_empty : (late : Late) (d : DeviceState) → DeviceRests late d → d.outbox ≡ []
 rests_empty late d rests = empty_by late.config late.device d rests
 
--- ---- what is told of one to which nothing happened yet
+-- ---- what holds for one without an event
 
 pub first_file : (late : Late) (d : DeviceState) → late.device ≡ None → DeviceRests late d → recovery_by (Some d) ≡ Err no_file.None
 unfolding view_of

@@ -1,4 +1,4 @@
--- Items whose bytes lie one after the other: those of each stay where they are when others follow.
+-- Items whose bytes follow one another: those of each stay where they are when others follow.
 use Rattle.std.proofs.Common.{◌≡◌, ◌≤◌, ◌+◌, ◌-◌, ℕ, List, [], ◌∷◌, ◌++◌, length, map, take, drop, refl, ap, sym, ◌∙◌, arith}
 use Rattle.std.specs.Prelude.{slice_range}
 use Rattle.std.specs.List.{AllByRecursion}

@@ -1,4 +1,4 @@
--- Power comes to a device over a flash of cells, for the first time or anew.
+-- Power comes to a device over a flash of cells, for the first time or again.
 use Rattle.std.proofs.Common.{◌≡◌, ℕ, ◌*◌, zero, suc, true, false, List, get_or, replicate, Result, Ok, Err, IfErr, MatchResult, refl, sym, ap, subst, ◌∙◌, arith}
 use Rattle.frag_session.specs.Session.{view_of}
 use Rattle.flash_session.specs.declared.fault.OpenFault.{OpenFault}
@@ -29,7 +29,7 @@ zeros zero i = refl
 zeros (suc n) zero = refl
 zeros (suc n) (suc i) = zeros n i
 
--- no session lies in cells that are 0
+-- there is no session in cells that are 0
 blank_at : (n : ℕ) (b : List ℕ) (base : ℕ) → Same (replicate n 0) b → byte_at b base ≡ 0xa5 → ⊥
 blank_at n b base same is = let none : byte_at b base ≡ 0 = same.all base ∙ zeros n base in omega (arith, none, is)
 
@@ -95,7 +95,7 @@ first_rests config n old new r starts blank is_held opened follows rises =
     (ap (λ (d : DeviceState). after_power none_complete no_sessions d) starts.rest ∙ first_quiet config) both.0 in
     record { stands = stands; stored = both.1; empty = sym (outbox_is new (first_device config) stands) }
 
--- anew
+-- again
 pub again_rests : (old new : HeldDevice Cells) (r : Result (Unit {0}) OpenFault) → IsInFlash old.sessions.state
     → ((device : DeviceState) → DeviceStands old device
     → StateIsHeld old.sessions.state device.sessions (cells_seen old.sessions.flash.bytes) → (b : List ℕ) → b ≡ new.sessions.flash.bytes

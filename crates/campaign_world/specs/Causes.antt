@@ -120,7 +120,7 @@ is_not_past now form = true
 
 -- ---- limit, last of all
 
--- after so many devices with a flash one more has its place
+-- after so many devices with a flash there is room for one more
 abbrev pub fits_flash : (count : ℕ) → Form → Bool
 fits_flash count (Device id class hw rows offset key descriptor v1 k11 flash) = not flash || nat_lt count max_flash_devices
 fits_flash count form = true

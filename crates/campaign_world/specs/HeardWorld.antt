@@ -1,4 +1,4 @@
--- A world after the lines that it has heard, whatever came of them.
+-- A world after the lines that it has heard, whichever they were.
 use Rattle.std.specs.Prelude.{◌≡◌, ◌⊎◌, ℕ, List, [], ◌∷◌, None, Some, Result, Ok, Err}
 use Rattle.report_lines.specs.declared.faults.LineError.TheVariants as error
 use Rattle.report_lines.specs.declared.faults.LineFault.{LineFault}

@@ -1,4 +1,4 @@
--- What happens at a device of a campaign, as its calls see it, and what it makes of the device and of the uplinks.
+-- What happens at a device of a campaign, as its calls see it, and how it changes the device and the uplinks.
 use Rattle.std.specs.Prelude.{◌≡◌, ℕ, ◌≤◌, ◌-◌, Bool, true, false, List, ◌++◌, length, map, slice_get, slice_set, Option, Some, None, Result}
 use Rattle.device_core.specs.declared.uplink.Uplink.{Uplink}
 use Rattle.device_core.specs.Device.{DeviceState, outbox_size}
@@ -39,7 +39,7 @@ makes_uplinks event.Raise = false
 makes_uplinks event.Power = false
 makes_uplinks other = true
 
--- what it makes of a device, whose uplinks are in its outbox
+-- how it changes a device, whose uplinks are in its outbox
 abbrev pub after_happening : Option DeviceEvent → DeviceState → DeviceState
 after_happening None device = device
 after_happening (Some event) device = event_step device event
@@ -47,7 +47,7 @@ after_happening (Some event) device = event_step device event
 abbrev pub after_event : Event → DeviceState → DeviceState
 after_event event device = after_happening (happening_of event) device
 
--- ---- what a call makes by it
+-- ---- what a call changes by it
 
 -- the uplinks that a device holds, numbered after the others
 abbrev pub numbered_after : List NumberedUplink → (id : ℕ) → List Uplink → List NumberedUplink
@@ -55,7 +55,7 @@ numbered_after uplinks id made = uplinks ++ map (λ uplink. made_by id uplink) m
 
 -- all uplinks are taken of a device, and numbered
 pub record TakesUplinks (id : ℕ) (old new : HeldDevice Cells) (uplinks new_uplinks : List NumberedUplink) : Type 0 where
-  -- it is at rest, as it was but for its uplinks
+  -- it is at rest, as it was except for its uplinks
   pub rests : (d : DeviceState) → DeviceStands old d → IsStored old d → length d.outbox ≤ outbox_size → IsAtRest new (uplinks_taken d)
   -- they follow the others, the oldest first
   pub numbered : length old.outbox ≤ outbox_size → new_uplinks ≡ numbered_after uplinks id old.outbox
@@ -65,7 +65,7 @@ pub record TakesUplinks (id : ℕ) (old new : HeldDevice Cells) (uplinks new_upl
 -- an event happens at a device, whose uplinks are taken and numbered; `Rests` says which records it rests as
 pub record Happens {H : Type 0} (Rests : H → DeviceState → Type 0) (after : DeviceState → DeviceState) (id : ℕ)
     (old new : H) (uplinks new_uplinks : List NumberedUplink) : Type 0 where
-  -- whatever record it rested as, it rests as what the event makes of that
+  -- for any record it rested as, it rests as what the event makes of that
   pub rests : (d : DeviceState) → Rests old d → Rests new (uplinks_taken (after d))
   -- the uplinks that the event makes follow the others, the oldest first
   pub numbered : (d : DeviceState) → Rests old d → new_uplinks ≡ numbered_after uplinks id (after d).outbox
@@ -82,7 +82,7 @@ pub record OneHappens (after : DeviceState → DeviceState) (id : ℕ) (old new 
   -- there are as many devices as before
   pub count : length new ≡ length old
 
--- where it is Ok, a campaign that plays is what the event makes of it; a campaign that is stood for says of itself which it is
+-- where it is Ok, a campaign that plays is what the event makes of it; each campaign that is stood for says which event that is
 abbrev pub PlaysEvent : (id : ℕ) → Option DeviceEvent → (old new : HeldCampaign) → {E : Type 0} → Result (Unit {0}) E → Type 0
 PlaysEvent id event old new result = (lines : ℕ) (of : WorldState → Option DeviceEvent)
     → ((here : Section) (kept : Option LineError) (devices : List DeviceState) → of (world_of (held_with lines here kept old) devices) ≡ event)

@@ -1,4 +1,4 @@
--- A device of a campaign, whose memory is taken when its first event comes.
+-- A device of a campaign, whose memory is taken at its first event.
 use Rattle.std.specs.Prelude.{◌≡◌, ◌≤◌, ◌<◌, ◌^◌, true, [], Option, Some, None}
 use Rattle.device_core.specs.Device.{DeviceState, first_device}
 use Rattle.flash_session.specs.Flashes.{Cells, cells_seen}
@@ -7,7 +7,7 @@ use Rattle.device_core.specs.HeldDevice.{HeldDevice, DeviceStands}
 use Rattle.device_core.specs.HeldSessions.{StateIsStored}
 use Rattle.device_core.specs.declared.config.DeviceConfig.{DeviceConfig}
 
--- what it is configured with, and what it holds from its first event on
+-- its configuration, and what it holds from its first event on
 pub record Late : Type 0 where
   pub config : DeviceConfig
   pub device : Option (HeldDevice Cells)
@@ -16,7 +16,7 @@ pub record Late : Type 0 where
 abbrev pub HasSpan : DeviceConfig → Type 0
 HasSpan config = config.held ≡ true → (records_place ≤ config.span) × (config.span < 2 ^ 30)
 
--- its sessions lie in its cells, if they are held there
+-- its sessions are in its cells, if they are held there
 abbrev pub IsStored : HeldDevice Cells → DeviceState → Type 0
 IsStored held device =
     StateIsStored held.sessions.state device.sessions (cells_seen held.sessions.flash.bytes)

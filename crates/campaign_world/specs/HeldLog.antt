@@ -1,4 +1,4 @@
--- What was sent or made, as the calls of a world see it: the items, and how many more have room.
+-- What was sent or made, as the calls of a world see it: the items, and how many more there is room for.
 use Rattle.std.specs.Prelude.{ℕ, ◌≤◌, ◌*◌, List}
 use Rattle.wire_base.specs.Payload.{max_payload}
 
@@ -8,7 +8,7 @@ pub record HeldLog (A : Type 0) : Type 0 where
   pub places : ℕ
   pub free : ℕ
 
--- so many items more have room, however long their payloads are
+-- there is room for so many more items, however long their payloads are
 pub record HasRoom {A : Type 0} (count : ℕ) (log : HeldLog A) : Type 0 where
   pub placed : count ≤ log.places
   pub fits : count * max_payload ≤ log.free

@@ -78,7 +78,7 @@ pub record WorldStands (held : HeldWorld) (world : WorldState) : Type 0 where
   pub devices : DevicesRest held.devices world.devices
   pub rest : world ≡ world_of held world.devices
 
--- whatever campaign was stood for, this one of it is stood for now
+-- for any campaign that was stood for, this one of it is stood for now
 abbrev pub WorldBecomes : (old new : HeldWorld) → (WorldState → WorldState) → Type 0
 WorldBecomes old new after = (world : WorldState) → WorldStands old world → WorldStands new (after world)
 
@@ -87,7 +87,7 @@ pub record EndsStand (held : HeldWorld) (world : WorldState) : Type 0 where
   pub devices : DevicesRest held.devices world.devices
   pub server : world.server ≡ held.server
 
--- whatever campaign was stood for, its devices and its server are stood for now
+-- for any campaign that was stood for, its devices and its server are stood for now
 abbrev pub KeepsEnds : (old new : HeldWorld) → Type 0
 KeepsEnds old new = (world : WorldState) → WorldStands old world → EndsStand new world
 
@@ -145,13 +145,13 @@ pub record IsTested (held : HeldCampaign) (form : Form) : Type 0 where
   pub available : is_available held.sent held.uplinks held.time form ≡ true
   pub short : fits_payload form ≡ true
 
--- where it is Ok, whatever world held the campaign becomes this, from one section to another
+-- where it is Ok, any world that held the campaign becomes this, from one section to another
 abbrev pub Becomes : (lines : ℕ) → (here there : Section) → (old new : HeldCampaign) → {E : Type 0} → Result (Unit {0}) E
     → (WorldState → WorldState) → Type 0
 Becomes lines here there old new result after =
     (kept : Option LineError) → OnOk result (WorldBecomes (held_with lines here kept old) (held_with lines there kept new) after)
 
--- so does one that plays, from whatever section
+-- so does one that plays, from any section
 abbrev pub Plays : (lines : ℕ) → (old new : HeldCampaign) → {E : Type 0} → Result (Unit {0}) E → (WorldState → WorldState) → Type 0
 Plays lines old new result after = (here : Section) → Becomes lines here section.Events old new result after
 

@@ -1,4 +1,4 @@
--- The items whose bytes lie one after the other, and what keeps them there.
+-- The items whose bytes follow one another, and what keeps them so.
 use Rattle.std.specs.Prelude.{ℕ, ◌+◌, ◌≤◌, List, length, slice_range}
 use Rattle.std.specs.List.{AllByRecursion}
 use Rattle.wire_base.specs.Payload.{max_payload}
@@ -21,7 +21,7 @@ made_at bytes head = record {
   uplink = record { due = head.due; port = head.port; payload = slice_range bytes head.at (head.at + head.len) };
 }
 
--- so many bytes lie after so many others, and are no more than a payload's
+-- so many bytes come after so many others, and are no more than a payload's
 pub record Lies (bytes : List ℕ) (at len : ℕ) : Type 0 where
   pub within : at + len ≤ length bytes
   pub few : len ≤ max_payload

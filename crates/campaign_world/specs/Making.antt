@@ -1,4 +1,4 @@
--- What a form that is not refused makes of a campaign (this project's profile).
+-- How a form that is not refused changes a campaign (this project's profile).
 use Rattle.std.specs.Prelude.{ℕ, ◌+◌, ◌-◌, Bool, true, false, List, [], ◌∷◌, ◌++◌, map, slice_set, if◌then◌else◌, Option, Some, None, option_map, Result, Ok, Err}
 use Rattle.std.specs.Result.{result_ok}
 use Rattle.wire_base.specs.declared.refusal.Refusal.{Refusal}
@@ -47,7 +47,7 @@ abbrev pub class_of : Class → DeviceClass
 class_of class.A = device_class.A
 class_of class.C = device_class.C
 
--- a device knows image format 1 alone, or both
+-- a device knows only image format 1, or both
 abbrev pub formats_of : (v1 : Bool) → ℕ
 formats_of true = 1
 formats_of false = 2
@@ -57,7 +57,7 @@ abbrev pub root_of : (k11 : Bool) → RootKind
 root_of true = V11
 root_of false = V10
 
--- bytes of flash for a session, whichever file the area takes
+-- bytes of flash for a session, for any file that the area takes
 abbrev pub flash_span : ℕ
 flash_span = 631573
 
@@ -200,7 +200,7 @@ after_form world (Device id class hw rows offset key descriptor v1 k11 flash) =
 after_form world (At time) = at_events (record world { time = time })
 after_form world (Wake device) = with_event_of world device (Wake device)
 after_form world (Migrate device) = with_event_of world device (Migrate device)
--- all that a device holds in flash is there again: nothing is another than before
+-- all that a device holds in flash is there again: nothing has changed
 after_form world (Power device) = at_events world
 after_form world (Ask device) = at_events (with_sent world (Some device) (request_of world.server device))
 after_form world Frag =

@@ -1,4 +1,4 @@
--- The file that a device recovered, or where its session stands instead (this project's profile).
+-- The file that a device recovered, or why it has none (this project's profile).
 use Rattle.std.specs.Prelude.{ℕ, List, Option, Some, None, Result, Ok, Err}
 use Rattle.frag_session.specs.declared.answers.Verdict.{Verdict}
 use Rattle.frag_session.specs.declared.answers.Verdict.TheVariants as verdict

@@ -8,8 +8,8 @@ use Rattle.script_lines.specs.Limits.{max_line}
 use Rattle.report_lines.specs.declared.faults.LineWhy.{LineWhy}
 use Rattle.report_lines.specs.declared.faults.LineWhy.TheVariants as why
 
--- a form of the campaign's own; what concerns another campaign alone; or that a payload which another campaign's server sent
--- to all reaches a device of this one
+-- a form of the campaign's own; what concerns only another campaign; or that a payload which another campaign's server sent to
+-- all reaches a device of this one
 pub data Said : Type 0 where
   Own : Form → Said
   Elsewhere : Said

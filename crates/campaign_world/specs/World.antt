@@ -1,4 +1,4 @@
--- A campaign as its script tells it (this project's profile): what it is at a moment, and at its start.
+-- A campaign as its script describes it (this project's profile): what it is at a moment, and at its start.
 use Rattle.std.specs.Prelude.{ℕ, List, [], None}
 use Rattle.device_core.specs.Device.{DeviceState}
 use Rattle.campaign_world.specs.declared.numbered.SentPayload.{SentPayload}

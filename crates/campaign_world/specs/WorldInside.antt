@@ -29,7 +29,7 @@ abbrev pub IsPlanned : (image : List ℕ) → Section → Plan → List Late →
 IsPlanned image section.Header plan devices = (plan.group ≡ None) × (plan.window ≡ None) × (plan.devices ≡ []) × (devices ≡ [])
 IsPlanned image section.Image plan devices = (plan.group ≡ None) × (plan.window ≡ None) × (plan.devices ≡ []) × (devices ≡ [])
 IsPlanned image section.Group plan devices = IsSized image plan devices × (plan.group ≡ None) × (plan.window ≡ None)
--- after a group its window is to come
+-- after a group its window must come
 IsPlanned image section.Window plan devices = IsSized image plan devices × (is_some plan.group ≡ true)
 IsPlanned image section.Device plan devices = IsSized image plan devices × IsWindowed plan
 IsPlanned image section.Devices plan devices = IsSized image plan devices × IsWindowed plan × (1 ≤ length devices)

@@ -15,7 +15,7 @@ use script_lines::Form;
 /// The most devices of a script whose sessions are held in flash.
 const MAX_FLASH_DEVICES: usize = 4;
 
-/// Whether the form stands after the plan: an event, or the end.
+/// Says whether the form comes after the plan: an event, or the end.
 pub fn is_event_or_end(form: &Form) -> bool
     ensures { result ≡ is_event_or_end form.now }
 {
@@ -30,7 +30,7 @@ pub fn is_event_or_end(form: &Form) -> bool
     }
 }
 
-/// Whether the form may come in this section.
+/// Says whether the form may come in this section.
 pub fn is_in_order(section: Section, form: &Form) -> bool
     ensures { result ≡ is_in_order section form.now }
 {
@@ -46,7 +46,7 @@ pub fn is_in_order(section: Section, form: &Form) -> bool
     }
 }
 
-/// Whether an image of this length has at most 4,096 fragments, and the device's ID is the next after so many.
+/// Says whether an image of this length has at most 4,096 fragments, and the device's ID is the next after so many.
 pub fn fits_script(len: usize, count: usize, form: &Form) -> bool
     requires len { len ≤ max_image }
     requires count { count < 2 ^ 63 }
@@ -63,14 +63,14 @@ pub fn fits_script(len: usize, count: usize, form: &Form) -> bool
     }
 }
 
-/// Whether so many devices, numbered from 1, have this one.
+/// Says whether so many devices, numbered from 1, have this one.
 pub fn is_device(count: usize, device: u64) -> bool
     ensures { result ≡ is_device count device }
 {
     1 <= device && device <= count as u64
 }
 
-/// Whether the device that the form names, if it names one, is in the script.
+/// Says whether the device that the form names, if it names one, is in the script.
 pub fn names_device(count: usize, form: &Form) -> bool
     ensures { result ≡ names_device count form.now }
 {
@@ -87,7 +87,7 @@ pub fn names_device(count: usize, form: &Form) -> bool
     }
 }
 
-/// Whether a payload was sent, to this device or to any.
+/// Says whether a payload was sent, to this device or to any.
 pub fn may_reach(device: u64, sent: &SentLog, number: u64) -> bool
     ensures { result ≡ may_reach device (numbered sent.now.items number) }
 {
@@ -100,7 +100,7 @@ pub fn may_reach(device: u64, sent: &SentLog, number: u64) -> bool
     }
 }
 
-/// Whether a sent payload goes out as a frame: it is to a group.
+/// Says whether a sent payload goes out as a frame: it is to a group.
 pub fn goes_out(sent: &SentLog, number: u64) -> bool
     ensures { result ≡ goes_out (numbered sent.now.items number) }
 {
@@ -119,7 +119,7 @@ fn is_to_group(to: To) -> bool
     }
 }
 
-/// Whether an uplink was made, and is due by now.
+/// Says whether an uplink was made, and is due by now.
 pub fn is_due_by(now: u64, uplinks: &UplinkLog, number: u64) -> bool
     ensures { result ≡ is_due_by now (numbered uplinks.now.items number) }
 {
@@ -129,7 +129,7 @@ pub fn is_due_by(now: u64, uplinks: &UplinkLog, number: u64) -> bool
     }
 }
 
-/// Whether a device with a flash, if the form tells of one, has its place after so many of them.
+/// Says whether a device with a flash, where the form has one, has its place after so many of them.
 pub fn fits_flash(count: usize, form: &Form) -> bool
     ensures { result ≡ fits_flash count form.now }
 {

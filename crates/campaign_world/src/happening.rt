@@ -1,4 +1,4 @@
-//! What happens at a device of a campaign. Its memory is taken at its first event, and its uplinks are numbered after each.
+//! What happens at a device of a campaign. Its memory is taken at its first event, and its uplinks are numbered after each event.
 
 ghost use Rattle.std.specs.Prelude.{◌≡◌, ◌≤◌, true, length, OnOk, OnErr};
 ghost use Rattle.device_core.specs.Device.{DeviceState, max_moment, outbox_size};
@@ -14,7 +14,7 @@ use package_grammar::DownlinkRef;
 use std::alloc::{AllocError, Global};
 use wire_base::Payload;
 
-/// Uplinks that a device holds at most, and so those that one event can make.
+/// The most uplinks that a device holds, and so the most that one event can make.
 pub const OUTBOX: usize = 8;
 
 /// What happens at a device.
@@ -28,12 +28,12 @@ pub enum Event<'a> {
     Wake(u64),
     /// It knows both image formats from now on.
     Raise,
-    /// Power comes to it anew.
+    /// Power comes to it again.
     Power,
 }
 
-/// An event happens at the device with a number, whose uplinks are numbered, oldest first. Where there is no memory for
-/// them or for the device it is not called. Each caller knows its event, so that no match on it is left in the built code.
+/// Makes an event happen at the device with a number, and numbers its uplinks, oldest first. Where there is no memory for them or
+/// for the device, the device is not called. Each caller knows its event, so that no match on it is left in the built code.
 #[inline(always)]
 pub fn happen(
     devices: &mut Vec<LateDevice>,
@@ -58,7 +58,7 @@ pub fn happen(
     happen_late(late, alloc, uplinks, id, event)
 }
 
-/// Room for the uplinks that the device may make by an event.
+/// Takes room for the uplinks that the device may make by an event.
 #[inline(always)]
 fn reserve_for(uplinks: &mut UplinkLog, event: &Event<'_>) -> Result<(), AllocError>
     ensures same { uplinks.new.items ≡ uplinks.old.items }
@@ -71,7 +71,7 @@ fn reserve_for(uplinks: &mut UplinkLog, event: &Event<'_>) -> Result<(), AllocEr
     }
 }
 
-/// An event happens at a device, which is created where it is its first one.
+/// Makes an event happen at a device, which is created at its first one.
 #[inline(always)]
 fn happen_late(
     late: &mut LateDevice,
@@ -101,7 +101,7 @@ fn happen_late(
     Ok(())
 }
 
-/// An event happens at a device, whose uplinks are taken.
+/// Makes an event happen at a device, and takes its uplinks.
 #[inline(always)]
 fn happen_at(device: &mut Device<CellFlash>, uplinks: &mut UplinkLog, id: u8, event: &Event<'_>)
     requires first { 1 ≤ id }
@@ -112,12 +112,12 @@ fn happen_at(device: &mut Device<CellFlash>, uplinks: &mut UplinkLog, id: u8, ev
 {
     match event {
         Event::Deliver(down, at) => {
-            // what became of it is counted by the device
+            // the device counts what happened to it
             let _delivered = device.receive(at.t, down, at.word, at.mark);
             take_uplinks(id, device, uplinks);
         }
         Event::Radio(bytes, at) => {
-            // so is this
+            // so here
             let _heard = device.radio(at.t, bytes, at.word, at.mark);
             take_uplinks(id, device, uplinks);
         }
@@ -131,7 +131,7 @@ fn happen_at(device: &mut Device<CellFlash>, uplinks: &mut UplinkLog, id: u8, ev
     }
 }
 
-/// Power comes to a device anew. Where its sessions are in memory alone no flash is called.
+/// Power comes to a device again. Where its sessions are only in memory no flash is called.
 fn restart(device: &mut Device<CellFlash>)
     ensures { (d : DeviceState) → IsAtRest device.old d → IsAtRest device.new d }
 {
@@ -152,7 +152,7 @@ fn take_uplinks(id: u8, device: &mut Device<CellFlash>, uplinks: &mut UplinkLog)
     }
 }
 
-/// The same of a device that holds some. It stands alone, so that no other payload keeps room for an uplink.
+/// The same for a device that holds some. It is a function by itself, so that no other payload keeps room for an uplink.
 #[inline(never)]
 fn take_held(id: u8, device: &mut Device<CellFlash>, uplinks: &mut UplinkLog)
     requires first { 1 ≤ id }

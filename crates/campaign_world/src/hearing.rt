@@ -20,11 +20,11 @@ impl HearsLine for World {
     }
 }
 
-/// Takes a line, and keeps what comes of it: after a refused line no line does more.
+/// Takes a line, and keeps its fault: after a refused line no line does more.
 fn hear(world: &mut World, line: &[u8])
     ensures { HearsScriptLine world.old line.now world.new }
 {
-    // what comes of it is kept in the world
+    // the world keeps the fault
     let _kept = world.line(line);
 }
 

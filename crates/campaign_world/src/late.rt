@@ -1,4 +1,4 @@
-//! A device of a campaign, whose memory is taken when its first event comes.
+//! A device of a campaign, whose memory is taken at its first event.
 
 ghost use Rattle.std.specs.Prelude.{◌≡◌, ℕ, true, None, IfOk, option_map, replicate};
 ghost use Rattle.device_core.specs.Device.{first_device, is_config};
@@ -11,7 +11,7 @@ use flash_session::CellFlash;
 use std::alloc::{AllocError, Global};
 use std::marker::Model;
 
-/// A device to which nothing happened yet costs no more than its configuration. Its sessions are in memory alone, or held in
+/// A device; before its first event it needs no more memory than its configuration. Its sessions are only in memory, or held in
 /// four ranges of a flash of cells.
 #[derive(Drop)]
 pub struct LateDevice {
@@ -34,7 +34,7 @@ impl Model for LateDevice {
 }
 
 impl LateDevice {
-    /// A device to which nothing happened yet.
+    /// Makes a device without an event.
     pub fn new(config: DeviceConfig) -> Self
         requires fine { is_config config ≡ true }
         requires span { HasSpan config }
@@ -46,7 +46,7 @@ impl LateDevice {
         }
     }
 
-    /// The device, from its first event on; None before.
+    /// Returns the device, from its first event on; None before.
     pub fn device(&self) -> Option<&Device<CellFlash>>
         ensures { option_map (λ device. device.now) result ≡ self.now.device }
     {
@@ -56,7 +56,7 @@ impl LateDevice {
         }
     }
 
-    /// What it is configured with.
+    /// Returns its configuration.
     pub fn config(&self) -> DeviceConfig
         ensures { result ≡ self.now.config }
     {
@@ -64,8 +64,8 @@ impl LateDevice {
     }
 }
 
-/// The device at its start, with all memory that it will ever need. It stands alone, so that no line keeps room for a whole
-/// device.
+/// Makes the device at its start, with all memory that it ever needs. It is a function by itself, so that no line keeps room for
+/// a whole device.
 #[inline(never)]
 pub fn created(alloc: Global, config: DeviceConfig) -> Result<Box<Device<CellFlash>>, AllocError>
     requires fine { is_config config ≡ true }
@@ -92,7 +92,7 @@ pub fn created(alloc: Global, config: DeviceConfig) -> Result<Box<Device<CellFla
     }
 }
 
-/// Power comes to a device for the first time, over cells in which nothing lies. One in memory alone is up without it.
+/// Power comes to a device for the first time, over cells that hold nothing. A device only in memory is up without it.
 fn start(device: &mut Device<CellFlash>)
     ensures { (config : DeviceConfig) (n : ℕ) → Starts config device.old.sessions.flash device.old
         → device.old.sessions.flash.bytes ≡ replicate n 0

@@ -1,8 +1,8 @@
-//! A campaign of a firmware update over LoRaWAN (TS003 to TS006, 1.0.0) as a script tells it, line by line: a server, its
+//! A campaign of a firmware update over LoRaWAN (TS003 to TS006, 1.0.0) as a script describes it, line by line: a server, its
 //! devices, what was sent and what was heard. The forms of a script, their order and the report are this project's profile.
-//! `World` takes one line after another, or refuses the first wrong one with its first cause, and gives the report.
-//! A campaign can play beside another one: it says what it has, and lets pass what concerns the other alone.
-//! Files and words of a command line are left to the program above.
+//! `World` takes one line after another, or refuses the first wrong one with its first cause, and makes the report. A campaign
+//! can be played next to another one: it shows its state to the other, and skips lines that are only for the other. Files and
+//! words of a command line are left to the program above.
 //!
 //!     let mut world = World::new(alloc, image)?;
 //!     for line in lines {

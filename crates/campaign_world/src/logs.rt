@@ -1,5 +1,5 @@
-//! What was sent and made in a campaign: the bytes of all, one after the other, and of each item where its bytes begin
-//! and how many they are. An item takes 24 bytes and its own.
+//! What was sent and made in a campaign: the bytes of all items, one after the other, and for each item where its bytes begin and
+//! how many they are. An item takes 24 bytes and its own.
 
 ghost use Rattle.std.specs.Prelude.{◌≡◌, ◌≤◌, ◌+◌, ◌++◌, ◌∷◌, ℕ, [], length, OnOk, vec_len, vec_capacity, slice_range};
 ghost use Rattle.wire_base.specs.Numbered.{numbered};
@@ -17,7 +17,7 @@ use std::alloc::{AllocError, Global};
 use std::marker::Model;
 use wire_base::MAX_PAYLOAD;
 
-/// What there is of a sent payload beside its bytes.
+/// A sent payload without its bytes.
 #[derive(Clone, Copy)]
 pub struct SentHead {
     receiver: Option<u8>,
@@ -27,7 +27,7 @@ pub struct SentHead {
     at: usize,
 }
 
-/// What there is of an uplink beside its bytes.
+/// An uplink without its bytes.
 #[derive(Clone, Copy)]
 pub struct MadeHead {
     due: u64,
@@ -37,7 +37,7 @@ pub struct MadeHead {
     len: u8,
 }
 
-/// The payloads that a server sent, oldest first. Contracts see their list, and what has room.
+/// The payloads that a server sent, oldest first. Contracts see their list, and how much room there is.
 #[derive(Drop)]
 pub struct SentLog {
     heads: Vec<SentHead>,
@@ -64,7 +64,7 @@ impl Model for SentLog {
 impl SentLog {
     ghost use Rattle.campaign_world.specs.declared.numbered.SentPayload.{SentPayload};
 
-    /// One in which nothing is.
+    /// Makes an empty log.
     pub fn new(alloc: Global) -> Self
         ensures { result.items ≡ [] }
     {
@@ -74,14 +74,14 @@ impl SentLog {
         }
     }
 
-    /// How many there are.
+    /// Returns how many there are.
     pub fn len(&self) -> usize
         ensures { result ≡ length self.now.items }
     {
         self.heads.len()
     }
 
-    /// The payload with a number, counted from 1; None where none has it.
+    /// Returns the payload with a number, counted from 1; None where none has it.
     pub fn number(&self, number: u64) -> Option<SentPayload<'_>>
         ensures { result ≡ numbered self.now.items number }
     {
@@ -91,7 +91,7 @@ impl SentLog {
         }
     }
 
-    /// Room for one payload more.
+    /// Takes room for one payload more.
     pub fn reserve(&mut self) -> Result<(), AllocError>
         ensures same { self.new.items ≡ self.old.items }
         ensures room { OnOk result (HasRoom 1 self.new) }
@@ -103,7 +103,7 @@ impl SentLog {
         self.bytes.reserve(MAX_PAYLOAD)
     }
 
-    /// Numbers a payload after the others. There is room for it.
+    /// Puts a payload after the others, with the next number. There is room for it.
     pub fn push(&mut self, receiver: Option<u8>, down: &Downlink)
         requires { HasRoom 1 self.old }
         ensures { self.new.items
@@ -121,7 +121,7 @@ impl SentLog {
     }
 }
 
-/// The uplinks that devices made, oldest first. Contracts see their list, and what has room.
+/// The uplinks that devices made, oldest first. Contracts see their list, and how much room there is.
 #[derive(Drop)]
 pub struct UplinkLog {
     heads: Vec<MadeHead>,
@@ -148,7 +148,7 @@ impl Model for UplinkLog {
 impl UplinkLog {
     ghost use Rattle.campaign_world.specs.declared.numbered.NumberedUplink.{NumberedUplink};
 
-    /// One in which nothing is.
+    /// Makes an empty log.
     pub fn new(alloc: Global) -> Self
         ensures { result.items ≡ [] }
     {
@@ -158,7 +158,7 @@ impl UplinkLog {
         }
     }
 
-    /// The uplink with a number, counted from 1; None where none has it.
+    /// Returns the uplink with a number, counted from 1; None where none has it.
     pub fn number(&self, number: u64) -> Option<NumberedUplink<'_>>
         ensures { result ≡ numbered self.now.items number }
     {
@@ -168,7 +168,7 @@ impl UplinkLog {
         }
     }
 
-    /// Room for as many uplinks more as a device holds.
+    /// Takes room for as many more uplinks as a device holds.
     pub fn reserve(&mut self) -> Result<(), AllocError>
         ensures same { self.new.items ≡ self.old.items }
         ensures room { OnOk result (HasRoom outbox_size self.new) }
@@ -180,7 +180,7 @@ impl UplinkLog {
         self.bytes.reserve(OUTBOX * MAX_PAYLOAD)
     }
 
-    /// Numbers an uplink of a device after the others. There is room for it.
+    /// Puts an uplink of a device after the others, with the next number. There is room for it.
     pub fn push(&mut self, device: u8, uplink: &Uplink)
         requires { HasRoom 1 self.old }
         ensures items { self.new.items
@@ -223,7 +223,7 @@ fn made_at<'a>(head: &MadeHead, bytes: &'a [u8]) -> NumberedUplink<'a>
     }
 }
 
-/// So many bytes after so many others.
+/// So many bytes from a place on.
 #[inline(always)]
 fn part(bytes: &[u8], at: usize, len: u8) -> &[u8]
     requires { Lies bytes.now at len }

@@ -1,4 +1,4 @@
-//! What is sent and made in a campaign, numbered from 1. It is borrowed where it lies.
+//! What is sent and made in a campaign, numbered from 1; its bytes are borrowed.
 
 ghost use Rattle.std.specs.Prelude.{◌≡◌, ◌<◌, ◌^◌, length};
 ghost use Rattle.std.specs.Option.{option_map};
@@ -18,11 +18,12 @@ pub struct SentPayload<'a> {
 /// An uplink that a device made.
 #[derive(Drop)]
 pub struct NumberedUplink<'a> {
+    /// The device, by its ID.
     pub device: u8,
     pub uplink: UplinkRef<'a>,
 }
 
-/// The item with a number, counted from 1.
+/// Returns the item with a number, counted from 1; None where none has it.
 pub fn numbered<T>(items: &[T], number: u64) -> Option<&T>
     requires { length items.now < 2 ^ 63 }
     ensures { option_map (λ x. x.now) result ≡ numbered items.now number }

@@ -1,4 +1,4 @@
-//! The file that a device recovered, or where its session stands instead.
+//! The file that a device recovered, or why it has none.
 
 ghost use Rattle.std.specs.Prelude.{◌≡◌, Some, Ok, Err, IfOk, IfErr};
 ghost use Rattle.frag_session.specs.HeldView.{seen};
@@ -25,7 +25,7 @@ pub enum NoFile {
     Conflict,
 }
 
-/// The file that a device recovered; one to which nothing happened has none.
+/// Returns the file that a device recovered, or why it has none; a device without an event has none.
 pub fn recovered_by(late: &LateDevice) -> Result<&[u8], NoFile>
     ensures file { (d : DeviceState) → DeviceRests late.now d
         → IfOk result (λ file. recovery_by (Some d) ≡ Ok file.now) }
@@ -38,7 +38,7 @@ pub fn recovered_by(late: &LateDevice) -> Result<&[u8], NoFile>
     }
 }
 
-/// That of its first session.
+/// The file of its first session.
 fn first_file(device: &Device<CellFlash>) -> Result<&[u8], NoFile>
     ensures file { (d : DeviceState) → DeviceStands device.now d
         → IfOk result (λ file. recovery_by (Some d) ≡ Ok file.now) }

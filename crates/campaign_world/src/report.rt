@@ -15,7 +15,7 @@ use image_slots::ImageState;
 use report_lines::{Standing, Tail, counts_line, device_line, session_lines};
 use std::alloc::{AllocError, Global};
 
-/// What a device counted to which nothing happened yet.
+/// The counters of a device without an event.
 const FIRST_COUNTS: Counts = Counts {
     deaf: 0,
     refused: 0,
@@ -23,7 +23,7 @@ const FIRST_COUNTS: Counts = Counts {
     dropped: 0,
 };
 
-/// The report: what is sent, where each device stands, and what its sessions show.
+/// Makes the report: what is sent, the stage of each device, and what its sessions show.
 pub fn report(
     alloc: Global,
     server: &Server,
@@ -71,7 +71,7 @@ fn device_parts(
     Ok(text)
 }
 
-/// The lines of one device, under its name.
+/// Makes the lines of one device, under its name.
 pub fn device_part(
     alloc: Global,
     image: &[u8],
@@ -106,7 +106,7 @@ pub fn device_part(
     }
 }
 
-/// How a device stands to which nothing happened yet.
+/// The standing of a device without an event.
 fn first_standing(config: DeviceConfig) -> Standing
     ensures { result ≡ standing_of (first_device config) }
 {
@@ -118,7 +118,7 @@ fn first_standing(config: DeviceConfig) -> Standing
     }
 }
 
-/// The lines of a device that stands so, counted this, and has these lines of its sessions.
+/// The lines of a device with this standing, these counters and these lines of its sessions.
 fn all_lines(
     alloc: Global,
     name: &str,

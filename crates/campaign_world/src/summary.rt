@@ -27,7 +27,7 @@ pub struct Totals {
     pub updated: u8,
 }
 
-/// The summary: the image, what was sent and heard, and how many devices have it.
+/// Makes the summary: the image, what was sent and heard, and how many devices have it.
 pub fn summary(
     alloc: Global,
     server: &Server,
@@ -68,7 +68,7 @@ fn all_lines(alloc: Global, size: &str, totals: &str) -> Result<String, AllocErr
     format!(in alloc; "{size}{totals}end\n")
 }
 
-/// What is counted of all devices.
+/// What is counted over all devices.
 fn count_devices(server: &Server, devices: &Vec<LateDevice>) -> Totals
     requires numbers { length devices.now.items ≡ length server.now.plan.devices }
     requires few { length devices.now.items ≤ 64 }
@@ -88,7 +88,7 @@ fn count_devices(server: &Server, devices: &Vec<LateDevice>) -> Totals
     totals
 }
 
-/// One device more.
+/// The totals with one device more.
 fn with_device(totals: Totals, stage: Stage, late: &LateDevice) -> Totals
     requires heard { totals.heard + 65535 < 2 ^ 32 }
     requires complete { totals.complete < 255 }

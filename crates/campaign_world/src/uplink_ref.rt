@@ -1,11 +1,11 @@
-//! An uplink of a campaign, where its bytes lie.
+//! An uplink of a campaign, whose bytes are borrowed.
 
 ghost use Rattle.std.specs.Prelude.{◌≡◌, ◌≤◌, length};
 ghost use Rattle.wire_base.specs.Payload.{max_payload};
 
 use std::marker::Model;
 
-/// An uplink of a device's, whose bytes are borrowed. Contracts see the uplink that it is.
+/// An uplink of a device, whose bytes are borrowed. Contracts see it as an uplink.
 #[derive(Drop)]
 pub struct UplinkRef<'a> {
     due: u64,
@@ -35,21 +35,21 @@ impl<'a> UplinkRef<'a> {
         UplinkRef { due, port, bytes }
     }
 
-    /// The moment at which it is due, in ms of true time.
+    /// Returns the moment at which it is due, in ms of true time.
     pub fn due(&self) -> u64
         ensures { result ≡ self.now.due }
     {
         self.due
     }
 
-    /// The port of its package.
+    /// Returns the port of its package.
     pub fn port(&self) -> u8
         ensures { result ≡ self.now.port }
     {
         self.port
     }
 
-    /// Its bytes.
+    /// Returns its bytes.
     pub fn bytes(&self) -> &'a [u8]
         ensures value { result.now ≡ self.now.payload }
         ensures within { length result.now ≤ max_payload }

@@ -1,4 +1,4 @@
-//! A campaign as its script tells it, line by line: what was sent, what was heard, and where each end stands.
+//! A campaign as its script describes it, line by line: what was sent, what was heard, and the state of each end.
 
 ghost use Rattle.std.specs.Prelude.{◌≡◌, ◌≤◌, ◌<◌, ◌+◌, true, List, length, None, Some, Ok, Err, IfOk, IfErr, IfSome, OnOk, OnErr, is_some, option_map};
 ghost use Rattle.image_slots.specs.Image.{is_image};
@@ -58,7 +58,7 @@ impl World {
     ghost use Rattle.campaign_world.specs.HeldWorld.{WorldStands, WorldBecomes, KeepsEnds, IsLineAnswer, IsReport, IsSummary, IsEnded, IsEndAnswer, IsFine, world_of};
     ghost use Rattle.report_lines.specs.Texts.{seen_text};
 
-    /// A world in which nothing happened yet, around an image file.
+    /// Makes a world in which nothing happened yet, around an image file.
     pub fn new(alloc: Global, image: &[u8]) -> Result<Self, AllocError>
         requires { is_image image.now ≡ true }
         ensures stands { IfOk result (λ w. WorldStands w (first_world image.now)) }
@@ -73,9 +73,9 @@ impl World {
         })
     }
 
-    /// Takes the next line of the script, without its line feed. After a refused line each later one is
-    /// answered with that fault, and and once out of memory with that. All memory that a line needs is taken before a device
-    /// or the server is called, so that both are as they were where it is missing.
+    /// Takes the next line of the script, without its line feed. After a refused line each later line gets the same fault, and so
+    /// it is after memory was missing. All memory that a line needs is taken before a device or the server is called, so that
+    /// both are unchanged where it is missing.
     pub fn line(&mut self, line: &[u8]) -> Result<(), LineError>
         ensures step { (world : WorldState) → WorldStands self.old world → self.old.kept ≡ None
             → IsLineAnswer world line.now self.new result }
@@ -103,7 +103,7 @@ impl World {
         }
     }
 
-    /// Lines so far.
+    /// Returns the number of lines so far.
     pub fn lines(&self) -> u32
         ensures lines { result ≡ self.now.lines }
         ensures few { result ≤ max_lines }
@@ -111,8 +111,8 @@ impl World {
         self.lines
     }
 
-    /// The first cause for which a form is refused; None where it can be carried out. How many lines there were is no
-    /// matter to it.
+    /// Returns the first cause for which a form is refused; None where it can be carried out. It doesn't depend on the number of
+    /// lines.
     pub fn cause(&self, form: &Form) -> Option<LineWhy>
         ensures cause { (world : WorldState) → WorldStands self.now world
             → result ≡ form_cause world form.now }
@@ -123,8 +123,8 @@ impl World {
         self.first_cause(form)
     }
 
-    /// Carries out a form that is not refused, as a line of the script. Where memory is missing devices and server are as
-    /// they were.
+    /// Carries out a form that is not refused, as a line of the script. Where memory is missing, devices and server are
+    /// unchanged.
     pub fn take(&mut self, form: &Form) -> Result<(), LineError>
         requires fine { IsFine self.old form.now }
         requires room { self.old.lines < max_lines }
@@ -156,7 +156,7 @@ impl World {
         self.lines += 1;
     }
 
-    /// The report of the campaign, once `end` has come.
+    /// Makes the report of the campaign, once `end` has come.
     pub fn report(&self, alloc: Global) -> Result<Vec<u8>, LineError>
         ensures report { (world : WorldState) → WorldStands self.now world → self.now.kept ≡ None
             → IsReport world (seen_text result) }
@@ -172,7 +172,7 @@ impl World {
         }
     }
 
-    /// The summary of the campaign, once `end` has come: what was sent and heard, and how many devices have the image.
+    /// Makes the summary of the campaign, once `end` has come: what was sent and heard, and how many devices have the image.
     pub fn summary(&self, alloc: Global) -> Result<Vec<u8>, LineError>
         ensures summary { (world : WorldState) → WorldStands self.now world → self.now.kept ≡ None
             → IsSummary world (seen_text result) }
@@ -188,7 +188,7 @@ impl World {
         }
     }
 
-    /// That `end` has come, or the fault of the line that is missing.
+    /// Says that `end` has come, or else returns the fault of the line that is missing.
     pub fn ended(&self) -> Result<(), LineError>
         ensures ended { (world : WorldState) → WorldStands self.now world → self.now.kept ≡ None
             → IsEnded world result }
@@ -200,8 +200,8 @@ impl World {
         }
     }
 
-    /// The file that session 0 of a device, numbered from 1, recovered so far, or why there is none; `ended` says
-    /// whether the script is whole.
+    /// Returns the file that session 0 of a device, numbered from 1, recovered so far, or why there is none; `ended` says whether
+    /// the script is complete.
     pub fn recovered(&self, device: u8) -> Result<&[u8], NoFile>
         ensures file { (world : WorldState) → WorldStands self.now world
             → IfOk result (λ file. recovery world device ≡ Ok file.now) }
@@ -214,7 +214,7 @@ impl World {
         }
     }
 
-    /// The uplink with a number, counted from 1; None where none has it. It is one command in its canonical spelling.
+    /// Returns the uplink with a number, counted from 1; None where none has it. It is one command in its canonical spelling.
     pub fn uplink(&self, number: u64) -> Option<UplinkRef<'_>>
         ensures found { result
             ≡ option_map (λ made. made.uplink) (numbered self.now.uplinks number) }
@@ -226,7 +226,7 @@ impl World {
         }
     }
 
-    /// Whether a line was refused, or memory was missing: then no line does more.
+    /// Says whether a line was refused, or memory was missing: then no line does more.
     pub fn is_over(&self) -> bool
         ensures { result ≡ is_some self.now.kept }
     {

@@ -1,4 +1,4 @@
--- What `serde_json` reads of a value's members, beside those that stand in it.
+-- What `serde_json` reads of a value's members, and those that are in it.
 use Rattle.std.proofs.Common.{◌≡◌, ℕ, Bool, true, false, cond, List, Option, Some, None, option_map, option_and_then, bytes_eq, true≢false, refl, sym, ap, ◌∙◌}
 use Rattle.std.proofs.lemmas.Slice.Eq.{bytes_eq-Decides}
 use Rattle.json.specs.Json as json

@@ -30,7 +30,7 @@ mutual
       let rest = members_are_read ms (put k first.0 found) h.1 in
       (rest.0, rw first.1 rest.1)
 
--- digits alone, below 2^64
+-- only digits, below 2^64
 pub whole_is_read : (s : List ℕ) (o : Option ℕ) → (slice_index s 0 ≡ minus → ⊥) → SomeIff o (IsInteger (scan s) × (digits_of (scan s) < 2 ^ 64)) (digits_of (scan s))
     → IfSome o (λ n. number_of s ≡ Some (unsigned n))
 unfolding number_of

@@ -46,7 +46,7 @@ bytes_by (Err e) = None
 abbrev pub bytes_of : List ℕ → Option (List ℕ)
 bytes_of digits = bytes_by (decode_of digits)
 
--- the bytes whose hex digits stand in the member hex
+-- the bytes whose hex digits are in the member hex
 unfoldable pub hex_of : Data → Option (List ℕ)
 hex_of value = option_and_then bytes_of (option_and_then as_str (get (codes "hex") value))
 
@@ -59,7 +59,7 @@ ranged (pos port) dir payload =
     else Err fault.Range
 ranged (negsuc port) dir payload = Err fault.Range
 
--- the entry of three members, each of which there must be
+-- the entry of three members, all of which there must be
 abbrev pub entry_by : Option ℤ → Option Direction → Option (List ℕ) → Result Entry EntryFault
 entry_by (Some port) (Some dir) (Some payload) = ranged port dir payload
 entry_by (Some port) (Some dir) None = Err fault.Syntax
@@ -75,12 +75,12 @@ entry_in (Some value) = entry_by (port_of value) (dir_of value) (hex_of value)
 unfoldable pub entry_of : List ℕ → Result Entry EntryFault
 entry_of line = entry_in (json_of line)
 
--- a line is refused for this cause, or memory was wanting
+-- a line is refused for this cause, or memory was missing
 abbrev pub IsRefusedBy : Result Entry EntryFault → EntryError → Type 0
 IsRefusedBy said (error.Refused cause) = said ≡ Err cause
 IsRefusedBy said error.Memory = Unit {0}
 
--- the answer to a line of which this is said: its entry, or the cause for which it is refused, or memory was wanting
+-- the answer to a line of which this is said: its entry, or the cause for which it is refused, or memory was missing
 pub record Answers (said : Result Entry EntryFault) (result : Result Entry EntryError) : Type 0 where
   pub entry : IfOk result (λ e. said ≡ Ok e)
   pub refused : IfErr result (IsRefusedBy said)

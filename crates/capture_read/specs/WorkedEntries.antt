@@ -1,4 +1,4 @@
--- Lines and what they are.
+-- Lines and what they are, worked out.
 use Rattle.std.specs.Prelude.{◌≡◌, ℕ, List, [], ◌∷◌, ◌++◌, codes, replicate, Result, Ok, Err}
 use Rattle.wire_base.specs.declared.refusal.Direction.TheVariants.{Down, Up}
 use Rattle.capture_read.specs.declared.answers.Entry.{Entry}
@@ -71,7 +71,7 @@ pub record WorkedJson : Type 0 where
   pub deeper : entry_of (line_with (codes "1") (codes "\"up\",\"x\":" ++ replicate 127 91 ++ replicate 127 93) (codes "\"\"")) ≡ Err fault.Syntax
   pub mark : entry_of (0xef ∷ 0xbb ∷ 0xbf ∷ line_of_port (codes "1")) ≡ Err fault.Syntax
 
--- which numbers are whole: those written without point and exponent, from -2^63 to below 2^64, but for -0
+-- which numbers are whole: those written without point and exponent, from -2^63 to below 2^64, except for -0
 pub record WorkedPorts : Type 0 where
   pub most : entry_of (line_of_port (codes "18446744073709551615")) ≡ Err fault.Range
   pub more : entry_of (line_of_port (codes "18446744073709551616")) ≡ Err fault.Syntax

@@ -3,18 +3,19 @@
 use thiserror::Error;
 use wire_base::{Direction, Payload};
 
-/// What a line of a capture tells: a payload, the port that it came on and its direction.
+/// What a line of a capture says: a payload, the port that it came on and its direction.
 #[derive(Debug, Drop, PartialEq)]
 pub struct Entry {
     pub port: u8,
     pub dir: Direction,
+    /// At most 242 bytes.
     pub payload: Payload,
 }
 
-/// Why a line is no entry: the first of these that holds.
+/// Why a line is no entry: the first of these causes that holds.
 #[derive(Clone, Copy, Debug, PartialEq, Eq, Error)]
 pub enum EntryFault {
-    /// No JSON object, or a member is missing or of another kind.
+    /// It is no JSON object, or a member is missing or of another kind.
     #[error("no entry of a capture")]
     Syntax,
     /// The port is not from 0 to 255.
@@ -31,7 +32,7 @@ pub enum EntryError {
     /// The line is refused.
     #[error(transparent)]
     Refused(EntryFault),
-    /// Memory was wanting.
+    /// Memory was missing.
     #[error("out of memory")]
     Memory,
 }

@@ -1,4 +1,4 @@
-//! What holds of the definitions alone.
+//! Laws about the definitions, each the contract of a function with an empty body.
 
 ghost use Rattle.std.specs.Prelude.{◌≡◌, ℕ, ◌≤◌, ◌<◌, List, Ok, length};
 ghost use Rattle.wire_base.specs.Payload.{max_payload};
@@ -12,7 +12,7 @@ pub fn entries_fit_frames()
         → length item.payload ≤ max_payload }
 {}
 
-/// Lines and what they are.
+/// Lines and what they are, worked out.
 pub fn worked_entries()
     ensures entries { WorkedEntries }
     ensures refusals { WorkedRefusals }

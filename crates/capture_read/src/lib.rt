@@ -1,8 +1,6 @@
-//! One line of a capture: a JSON object (RFC 8259) with a payload in hex, its port and its direction. (This project's
-//! profile.)
-//! Whatever bytes are handed in, they are an entry exactly where the definition says so, over the value that `serde_json`
-//! reads; and a refusal names the first cause that holds.
-//! Lines, their numbers, and what becomes of an entry are left to the crates above.
+//! One line of a capture: a JSON object (RFC 8259) with a payload in hex, its port and its direction (this project's profile).
+//! Any bytes are an entry exactly where the definition says so, over the value that `serde_json` reads; a refusal names the first
+//! cause that holds. Lines, their numbers, and what happens to an entry are left to the crates above.
 //!
 //!     match entry(alloc, br#"{"port":201,"dir":"down","hex":"0801005a"}"#) {
 //!         Ok(entry) => hear(entry.port, entry.dir, &entry.payload),
@@ -10,7 +8,7 @@
 //!         Err(EntryError::Memory) => give_up(),
 //!     }
 //!
-//! For line after line, `entry_with` takes a `Scratch` that is lent to each.
+//! For line after line, `entry_with` borrows one `Scratch` again and again.
 #![tactic(auto)]
 
 mod answers;

@@ -7,7 +7,7 @@ ghost use Rattle.capture_read.specs.Entries.{port_of, direction_of, dir_of};
 use serde_json::Value;
 use wire_base::Direction;
 
-/// The whole number in the member `port`.
+/// Returns the whole number in the member `port`.
 #[tactic(auto, unfolding(crate::specs::Entries::port_of))]
 pub fn port_of(value: &Value) -> Option<i128>
     ensures { result ≡ port_of (view value.now) }
@@ -21,7 +21,7 @@ pub fn port_of(value: &Value) -> Option<i128>
     }
 }
 
-/// The direction that a word names.
+/// Returns the direction that a word names.
 pub fn direction_of(word: &str) -> Option<Direction>
     ensures { result ≡ direction_of word.now }
 {
@@ -32,7 +32,7 @@ pub fn direction_of(word: &str) -> Option<Direction>
     }
 }
 
-/// The direction in the member `dir`.
+/// Returns the direction in the member `dir`.
 #[tactic(auto, unfolding(crate::specs::Entries::dir_of))]
 pub fn dir_of(value: &Value) -> Option<Direction>
     ensures { result ≡ dir_of (view value.now) }

@@ -10,10 +10,10 @@ ghost use Rattle.capture_read.specs.NumbersRead.{IsRead, IsReadAs, AreRead, Item
 use fast_float::Numeral;
 use json::Value;
 
-/// The most bytes of a number that is short, its sign left out.
+/// The most bytes of a short number, without its sign.
 const SHORT: usize = 19;
 
-/// The number that a text writes by digits alone, below 2^64.
+/// Returns the number that a text writes with only digits, below 2^64.
 pub fn whole(text: &str) -> Option<u64>
     ensures { IfSome result (λ n. number_of text.now ≡ Some (unsigned n)) }
 {
@@ -48,7 +48,7 @@ fn is_short_unsigned(bytes: &[u8]) -> bool
     numeral.exponent().is_empty()
 }
 
-/// Whether each number in a value is short.
+/// Says whether each number in a value is short.
 #[cycle(numbers)]
 pub fn are_short(value: &Value<'_>) -> bool
     ensures { IsTrue result → AreRead (value_view value.now) }

@@ -1,4 +1,4 @@
-//! Lines whose numbers are all short: these are read without copying what they say.
+//! Lines whose numbers are all short: these are read without copying their text.
 
 ghost use Rattle.std.specs.Prelude.{◌≡◌, [], pos, Some, Ok, IfSome, option_and_then};
 ghost use Rattle.json.specs.Value.{value_view};
@@ -19,7 +19,7 @@ use wire_base::Direction;
 /// How deep a line may nest.
 const MAX_DEPTH: usize = 127;
 
-/// The entry of a line whose numbers are all short, and its port written by digits alone. None says nothing of a line.
+/// Reads the entry of a line whose numbers are all short, and whose port has only digits. None says nothing of a line.
 pub fn plain_entry(alloc: Global, scratch: &mut Scratch, line: &[u8]) -> Option<Entry>
     ensures { IfSome result (λ e. entry_of line.now ≡ Ok e) }
 {
@@ -37,7 +37,7 @@ pub fn plain_entry(alloc: Global, scratch: &mut Scratch, line: &[u8]) -> Option<
     entry
 }
 
-/// The entry that a value is after which nothing stands.
+/// The entry that a value is, where nothing follows the value.
 fn last_entry(alloc: Global, reader: &mut Reader<'_>, value: &Value<'_>) -> Option<Entry>
     ensures { IfSome result (λ e. (reader.old ≡ []) × IsEntry (value_view value.now) e) }
 {

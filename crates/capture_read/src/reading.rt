@@ -13,7 +13,7 @@ use serde_json::Value;
 use std::alloc::Global;
 use wire_base::{Direction, MAX_PAYLOAD, Payload};
 
-/// The entry of a line.
+/// Reads the entry of a line.
 pub fn entry(alloc: Global, line: &[u8]) -> Result<Entry, EntryError>
     ensures { Answers (entry_of line.now) result }
 {
@@ -21,7 +21,7 @@ pub fn entry(alloc: Global, line: &[u8]) -> Result<Entry, EntryError>
     entry_with(alloc, &mut scratch, line)
 }
 
-/// The same, where one `scratch` may be lent to line after line: it is room, and says nothing of what is answered.
+/// Does the same with a `scratch` that may be borrowed for line after line: it is room, and doesn't change any answer.
 pub fn entry_with(alloc: Global, scratch: &mut Scratch, line: &[u8]) -> Result<Entry, EntryError>
     ensures { Answers (entry_of line.now) result }
 {
@@ -31,7 +31,7 @@ pub fn entry_with(alloc: Global, scratch: &mut Scratch, line: &[u8]) -> Result<E
     }
 }
 
-/// The same of any line, as `serde_json` reads it.
+/// The same for any line, as `serde_json` reads it.
 #[tactic(auto, unfolding(crate::specs::Entries::entry_of, crate::specs::Entries::json_of))]
 fn any_entry(alloc: Global, line: &[u8]) -> Result<Entry, EntryError>
     ensures { Answers (entry_of line.now) result }
@@ -75,7 +75,7 @@ fn entry_in(alloc: Global, value: &Value) -> Result<Entry, EntryError>
     }
 }
 
-/// The entry, once its members are as they must be.
+/// Makes the entry, where its members are as they must be.
 pub fn ranged(port: i128, dir: Direction, payload: &[u8]) -> Result<Entry, EntryFault>
     ensures { result ≡ ranged port dir payload.now }
 {

@@ -53,7 +53,7 @@ all_read bytes at count groups i all read =
 
 -- ---- groups as parts of a row
 
--- so many groups from a place on lie there
+-- so many groups are there from a place on
 pub groups_lie : (bytes : List ℕ) (at skip count next : ℕ) → next ≡ at + skip + 5 * count → next ≤ length bytes → PartsLie bytes at skip (group_parts (groups_at bytes (at + skip) count)) next
 unfolding groups_at
 groups_lie bytes at skip zero next ends within = (omega (arith, ends), within)
@@ -70,7 +70,7 @@ groups_lie bytes at skip (suc count) next ends within =
       ),
     )
 
--- groups that lie there are those from the place on, and end after them
+-- groups that are there are those from the place on, and end after them
 pub groups_known : (groups : List GroupAddress) (bytes : List ℕ) (at skip next : ℕ) → PartsLie bytes at skip (group_parts groups) next
     → (groups_at bytes (at + skip) (length groups) ≡ groups) × (next ≡ at + skip + 5 * length groups) × (next ≤ length bytes)
 unfolding groups_at

@@ -12,7 +12,7 @@ use Rattle.cast_wire.specs.Table.{Spells}
 use Rattle.cast_wire.specs.Reading.{fragment_down, fragment_up, group_down, group_up, reading}
 use Rattle.cast_wire.proofs.GroupLists.{groups_known}
 
--- bytes that lie from a place on are that range of the payload
+-- bytes that are there from a place on are that range of the payload
 block_is : (bytes block : List ℕ) (at len : ℕ) → length block ≡ len → at + len ≤ length bytes → ((k : ℕ) → k < length block → get_or bytes (at + k) 0 ≡ get_or block k 0) → slice_range bytes at (at + len) ≡ block
 block_is bytes block at len long within lie =
     let taken : at + len - at ≡ len = omega arith in

@@ -1,4 +1,4 @@
--- The laws of spellings, over the definitions alone.
+-- The laws of spellings, over the definitions.
 use Rattle.std.proofs.Common.{◌≡◌, ℕ, ◌+◌, ◌<◌, true, false, List, [], ◌∷◌, ◌++◌, length, Option, Some, None, refl, arith}
 use Rattle.wire_base.specs.declared.refusal.Direction.{Direction}
 use Rattle.wire_base.specs.Rows.{IsListed, takes_rest, is_well_formed}

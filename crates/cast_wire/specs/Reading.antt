@@ -1,5 +1,6 @@
 -- Between the table and the code: for each port and direction the command that a place's identifier names, and its end.
--- What commands are is said by the table alone; the reading of a payload computes with these, and is held to it by law.
+-- The table alone says what commands are. The reading of a payload computes with these functions, and a law holds it to the
+-- table.
 use Rattle.std.specs.Prelude.{ℕ, zero, suc, ◌+◌, ◌*◌, ◌||◌, ◌==◌, nat_le, if◌then◌else◌, List, [], ◌∷◌, length, drop, slice_range, count_ones, Option, Some, None}
 use Rattle.wire_base.specs.declared.refusal.Direction.{Direction}
 use Rattle.wire_base.specs.declared.refusal.Direction.TheVariants.{Down, Up}

@@ -84,7 +84,7 @@ canonical c = spelling (row c)
 abbrev pub IsPort : ℕ → Type 0
 IsPort port = (port ≡ 200) ⊎ (port ≡ 201)
 
--- a command of TS005 alone, by its one port
+-- a command of only TS005, by its one port
 abbrev pub IsOfGroups : Cmd → Type 0
 IsOfGroups c = (row c).ports ≡ 200 ∷ []
 

@@ -1,5 +1,5 @@
 -- What a command's fields must be together, as a test; and one command of each row, which shows the known identifiers.
--- What commands are is said by the table alone; the reading of a payload computes with these, and is held to it by law.
+-- The table alone says what commands are. The reading of a payload computes with these tests, and a law holds it to the table.
 use Rattle.std.specs.Prelude.{ℕ, Bool, true, false, ◌&&◌, ◌||◌, ◌==◌, nat_le, List, [], ◌∷◌, length, None, is_none, count_ones}
 use Rattle.std.specs.Bool.{beq}
 use Rattle.wire_base.specs.declared.refusal.Direction.{Direction}

@@ -1,7 +1,7 @@
 use crate::fragment_bytes::FragmentBytes;
 use crate::group_list::GroupList;
 
-/// A command with its fields. `specs/Table.antt` says how each lies in its bytes, numbers with the lowest byte first.
+/// A command with its fields. `specs/Table.antt` says where each is in its bytes; numbers have the lowest byte first.
 #[derive(Debug, PartialEq, Drop)]
 pub enum Cmd<'a> {
     /// From the server, on both ports: which package and version is there?
@@ -42,11 +42,11 @@ pub enum Cmd<'a> {
         frag_size: u8,
         /// The coding of the fragments, 0 to 7.
         algo: u8,
-        /// BlockAckDelay, 0 to 7: what is asked by multicast is answered less than 2^(delay + 4) seconds later.
+        /// BlockAckDelay, 0 to 7: a multicast request is answered less than 2^(delay + 4) seconds later.
         delay: u8,
         /// The bytes that fill the last fragment up.
         padding: u8,
-        /// What the file is, as the server says it.
+        /// The descriptor: what the file is, as the server says it.
         descriptor: u32,
     },
     /// TS004-1.0.0, from the device.

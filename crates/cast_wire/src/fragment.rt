@@ -1,4 +1,4 @@
-//! A DataFragment as it lies in its payload, without a copy of its bytes.
+//! A DataFragment in its payload, without a copy of its bytes.
 
 ghost use Rattle.std.specs.Prelude.{◌<◌, ◌≤◌, length, IfSome};
 ghost use Rattle.wire_base.specs.Payload.{max_payload};
@@ -7,7 +7,7 @@ ghost use Rattle.cast_wire.specs.Fragment.{IsFragmentAt};
 use crate::ids::{DATA_FRAGMENT, FRAGMENT_HEAD_LEN};
 use wire_base::{u8_at, u16_at};
 
-/// The fields of a DataFragment (TS004-1.0.0), its bytes where they lie.
+/// The fields of a DataFragment (TS004-1.0.0); its bytes stay in the payload.
 #[derive(Clone, Copy)]
 pub struct Fragment<'a> {
     /// The session, 0 to 3.
@@ -18,8 +18,8 @@ pub struct Fragment<'a> {
     pub bytes: &'a [u8],
 }
 
-/// The DataFragment at a place of a payload from the server on port 201, which takes all that is left of it; None exactly
-/// where none is spelled there.
+/// Reads the DataFragment at a place of a payload from the server on port 201; it takes all that is left of the payload. None
+/// exactly where none is spelled there.
 pub fn fragment_at(bytes: &[u8], at: u16) -> Option<Fragment<'_>>
     requires inside { at ≤ length bytes.now }
     requires fits { length bytes.now ≤ max_payload }

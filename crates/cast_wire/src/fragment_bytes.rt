@@ -10,7 +10,7 @@ use std::marker::Model;
 /// The most bytes that a fragment has: a payload's 242 without the command's first three.
 pub const MAX_FRAGMENT: usize = 239;
 
-/// The bytes of a fragment, at most `MAX_FRAGMENT`, where they lie. Contracts see their list.
+/// The bytes of a fragment (TS004-1.0.0, DataFragment), at most `MAX_FRAGMENT`, borrowed. Contracts see their list.
 #[derive(Debug, Drop)]
 pub struct FragmentBytes<'a> {
     bytes: &'a [u8],
@@ -28,14 +28,14 @@ impl<'a> Model for FragmentBytes<'a> {
 }
 
 impl<'a> FragmentBytes<'a> {
-    /// Whether these bytes make a fragment: there are at most `MAX_FRAGMENT`.
+    /// Says whether these bytes make a fragment: there are at most `MAX_FRAGMENT`.
     pub fn fits(bytes: &[u8]) -> bool
         ensures { IsTrue result ↔ (length bytes.now ≤ max_fragment) }
     {
         bytes.len() <= MAX_FRAGMENT
     }
 
-    /// A fragment of these bytes.
+    /// Makes a fragment of these bytes.
     #[inline(always)]
     pub fn from_slice(bytes: &'a [u8]) -> Self
         requires { length bytes.now ≤ max_fragment }
@@ -44,7 +44,7 @@ impl<'a> FragmentBytes<'a> {
         FragmentBytes { bytes }
     }
 
-    /// The bytes.
+    /// Returns the bytes.
     pub fn as_slice(&self) -> &'a [u8]
         ensures value { result.now ≡ self.now }
         ensures within { length result.now ≤ max_fragment }

@@ -1,4 +1,4 @@
-//! Groups that exist, as a McGroupStatusAns lists them.
+//! The groups that exist, as a McGroupStatusAns lists them.
 
 ghost use Rattle.std.specs.Prelude.{◌≡◌, ◌<◌, ◌≤◌, [], ◌∷◌, ◌++◌, length};
 ghost use Rattle.cast_wire.specs.Limits.{max_groups};
@@ -9,7 +9,7 @@ use std::marker::Model;
 /// The most groups that a device has (TS005-1.0.0).
 pub const MAX_GROUPS: usize = 4;
 
-/// A group that exists, and its address.
+/// A group that exists, and its address (TS005-1.0.0, McGroupStatusAns).
 #[derive(Clone, Copy, Debug, Default, PartialEq, Eq)]
 pub struct GroupAddress {
     /// McGroupID, 0 to 3.
@@ -18,7 +18,7 @@ pub struct GroupAddress {
     pub addr: u32,
 }
 
-/// At most `MAX_GROUPS` groups. They lie in the value itself. Contracts see their list.
+/// At most `MAX_GROUPS` groups, held in the value itself. Contracts see their list.
 #[derive(Debug, Drop, PartialEq)]
 pub struct GroupList {
     groups: ArrayVec<GroupAddress, MAX_GROUPS>,
@@ -39,7 +39,7 @@ impl Model for GroupList {
 }
 
 impl GroupList {
-    /// No group.
+    /// Makes a list without groups.
     pub fn new() -> Self
         ensures { result ≡ [] }
     {
@@ -56,7 +56,7 @@ impl GroupList {
         self.groups.push(group);
     }
 
-    /// The groups.
+    /// Returns the groups.
     pub fn as_slice(&self) -> &[GroupAddress]
         ensures value { result.now ≡ self.now }
         ensures within { length result.now ≤ max_groups }

@@ -1,8 +1,7 @@
-//! The commands of fragmented data block transport (TS004-1.0.0, port 201) and remote multicast setup
-//! (TS005-1.0.0, port 200), one by one, as values and as bytes.
-//! A command is answered exactly where its bytes spell it by the row of `specs/Table.antt`, any other place is
-//! refused with its cause, and a valid command is written in its canonical spelling, whole or not at all.
-//! Payloads of several commands, the other packages and what a command does are left to the crates above.
+//! The commands of fragmented data block transport (TS004-1.0.0, port 201) and remote multicast setup (TS005-1.0.0, port 200),
+//! one by one, as values and as bytes. A command is read exactly where its bytes spell it by its row of `specs/Table.antt`; any
+//! other place is refused with its cause. A valid command is written in its canonical spelling, whole or not at all. Payloads of
+//! several commands, the other packages and what a command does are left to the crates above.
 //!
 //!     match read_one(FRAGMENT_PORT, Direction::Down, bytes, 0) {
 //!         Ok((Cmd::FragSessionSetupReq { nb_frag, frag_size, .. }, next)) => ..,
@@ -10,7 +9,7 @@
 //!         Err(refusal) => ..,                   // at which byte, and why
 //!     }
 //!     if let Some(fragment) = fragment_at(bytes, 0) {
-//!         // fragment.index, fragment.n, and fragment.bytes where they lie
+//!         // fragment.index, fragment.n, and fragment.bytes, which are not copied
 //!     }
 #![tactic(auto)]
 

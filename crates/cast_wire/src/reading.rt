@@ -8,8 +8,8 @@ use crate::reading_fragments::{read_fragment_down, read_fragment_up};
 use crate::reading_groups::{read_group_down, read_group_up};
 use wire_base::{Direction, MAX_PAYLOAD, Refusal};
 
-/// The command at a place of a payload, and the place after it; reserved bits are ignored.
-/// Else the first cause: `Port` at 0, `TooLong` at 242, `UnknownCommand` at the place, `Short` at the payload's end.
+/// Reads the command at a place of a payload (TS004-1.0.0, TS005-1.0.0), and returns it with the place after it; reserved bits
+/// are ignored. Else the first cause: `Port` at 0, `TooLong` at 242, `UnknownCommand` at the place, `Short` at the payload's end.
 #[inline(always)]
 pub fn read_one(port: u8, dir: Direction, bytes: &[u8], at: u16) -> Result<(Cmd<'_>, u16), Refusal>
     requires { at < length bytes.now }

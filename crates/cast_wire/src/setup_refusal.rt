@@ -6,8 +6,8 @@ ghost use Rattle.cast_wire.specs.SetupRefusal.{refusal_bits, setup_answer};
 use crate::cmd::Cmd;
 use wire_base::flag_value;
 
-/// Bits 3:0 of a FragSessionSetupAns as a number: 8 wrong descriptor, 4 index not supported, 2 not enough memory,
-/// 1 encoding unsupported.
+/// Returns bits 3:0 of a FragSessionSetupAns (TS004-1.0.0) as a number: 8 wrong descriptor, 4 index not supported, 2 not enough
+/// memory, 1 encoding unsupported.
 pub fn refusal_bits(
     wrong_descriptor: bool,
     index_unsupported: bool,
@@ -24,7 +24,7 @@ pub fn refusal_bits(
         + flag_value(encoding_unsupported, 1)
 }
 
-/// The FragSessionSetupAns of a session whose bits 3:0 are those of this number.
+/// Makes the FragSessionSetupAns of a session whose bits 3:0 are those of this number.
 pub fn setup_answer(index: u8, bits: u8) -> Cmd<'static>
     ensures { result ≡ setup_answer index bits }
 {

@@ -5,7 +5,7 @@ ghost use Rattle.wire_base.specs.Rows.{PartsFit};
 use crate::cmd::Cmd;
 use crate::group_list::GroupAddress;
 
-/// Whether each field fits its bits, and the fields fit together.
+/// Says whether each field fits its bits, and the fields fit together.
 // Fields that fill their bytes are bound too, so that their ranges are known.
 pub fn valid(cmd: &Cmd) -> bool
     ensures { IsTrue result ↔ IsValid cmd.now }
@@ -43,7 +43,7 @@ pub fn valid(cmd: &Cmd) -> bool
     }
 }
 
-/// The same for a command of the groups.
+/// The same for a command of groups.
 fn is_valid_of_groups(cmd: &Cmd) -> bool
     requires { IsOfGroups cmd.now }
     ensures { IsTrue result ↔ IsValid cmd.now }

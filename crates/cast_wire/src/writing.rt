@@ -13,7 +13,7 @@ use crate::writing_groups::{
 };
 use wire_base::{Full, Payload};
 
-/// Puts the canonical spelling of a command at the end, whole or not at all.
+/// Puts the canonical spelling of a command at the end, whole or not at all; `Full` where there is no room.
 pub fn write_one(cmd: &Cmd, out: &mut Payload) -> Result<(), Full>
     requires { IsValid cmd.now }
     ensures { Appends out.old out.new (canonical cmd.now) result }

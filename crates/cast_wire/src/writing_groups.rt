@@ -177,7 +177,7 @@ pub fn put_class_b_answer(
     )
 }
 
-/// A class session's answer: the group with its error bits, and TimeToStart where there is none.
+/// The answer to a class session request: the group with its error bits, and TimeToStart where there is no error.
 fn put_session_answer(
     cid: u8,
     id: u8,

@@ -1,4 +1,4 @@
--- Windows and answers that are worked out (LoRaWAN 1.0, receive windows and class B slots; TS005-1.0.0).
+-- Windows and answers, worked out (LoRaWAN 1.0, receive windows and class B slots; TS005-1.0.0).
 use Rattle.std.specs.Prelude.{◌≡◌, ◌-◌, ◌*◌, ◌+◌, ◌^◌, true, false, Some, None}
 use Rattle.class_windows.specs.Windows.{beacon_at, ping_period, ping_offset}
 use Rattle.class_windows.specs.Open.{is_in_slot, is_open_a, is_open_b, is_open_c}
@@ -71,6 +71,6 @@ pub record WorkedAnswers : Type 0 where
   pub round : time_to_start (2 ^ 32 - 1) 1 ≡ 2
   pub far : time_to_start 0 (2 ^ 31 - 1) ≡ 2 ^ 24 - 1
   pub too_far : time_to_start 0 (2 ^ 31) ≡ 0
-  -- it is answered without an error alone
+  -- it is answered only without an error
   pub answered : start_answer 0 1000 1010 ≡ Some 10
   pub refused : start_answer 4 1000 1010 ≡ None

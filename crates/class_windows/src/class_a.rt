@@ -3,15 +3,15 @@
 ghost use Rattle.std.specs.Prelude.{◌≡◌};
 ghost use Rattle.class_windows.specs.Open.{is_open_a, is_after_uplink};
 
-/// A class A device, which hears after an uplink alone (LoRaWAN 1.0, receive windows).
+/// A class A device, which hears only after an uplink (LoRaWAN 1.0, receive windows).
 #[derive(Clone, Copy, Debug)]
 pub struct ClassA {
-    /// The due moment of the uplink that it made last, in ms of true time.
+    /// The due moment of the uplink made last, in ms of true time.
     pub last_due: Option<u64>,
 }
 
 impl ClassA {
-    /// Whether the device hears at `t` ms of true time: 1,000 to 1,099 or 2,000 to 2,099 ms after its uplink.
+    /// Says whether the device hears at `t` ms of true time: 1,000 to 1,099 or 2,000 to 2,099 ms after its uplink.
     pub fn open_at(&self, t: u64) -> bool
         ensures { result ≡ is_open_a self.now.last_due t }
     {

@@ -5,7 +5,7 @@ ghost use Rattle.std.specs.Prelude.{◌<◌};
 use crate::running::is_running;
 use aes_block::encrypt_under_zeros;
 
-/// A class B session (TS005-1.0.0, McClassBSessionReq): it runs from the beacon of its start on, and hears in its slots.
+/// A class B session (TS005-1.0.0, McClassBSessionReq): it runs from the beacon of its start on, and hears in its ping slots.
 #[derive(Clone, Copy, Debug)]
 pub struct ClassB {
     /// SessionTime, in seconds of the device's clock; rounded down to a beacon it is the start.
@@ -22,7 +22,7 @@ impl ClassB {
     ghost use Rattle.std.specs.Prelude.{◌≡◌, ◌↔◌, ◌<◌, ◌*◌, ◌^◌, IsTrue};
     ghost use Rattle.class_windows.specs.Open.{is_open_b};
 
-    /// Whether a frame to McAddr `addr` is heard at the device's own milliseconds.
+    /// Says whether a frame to McAddr `addr` is heard at `device_ms`, the milliseconds of the device's clock.
     #[tactic(auto, unfolding(crate::specs::Open::is_ping_slot))]
     pub fn open_at(&self, device_ms: u64, addr: u32) -> bool
         requires { device_ms < 1000 * 2 ^ 32 }
@@ -74,7 +74,7 @@ fn ping_offset(beacon: u32, addr: u32, periodicity: u8) -> u16
     (rand[0] as u16 + 256 * rand[1] as u16) % ping_period(periodicity)
 }
 
-/// Whether one of every `period` slots from `offset` on is open so many ms after the beacon.
+/// Says whether one of every `period` slots from `offset` on is open so many ms after the beacon.
 #[tactic(auto, unfolding(crate::specs::Open::is_in_slot))]
 fn is_in_slot(offset: u16, period: u16, ms: u64) -> bool
     requires { 0 < period }

@@ -18,7 +18,7 @@ impl ClassC {
     ghost use Rattle.std.specs.Prelude.{◌≡◌};
     ghost use Rattle.class_windows.specs.Open.{is_open_c};
 
-    /// Whether the device hears at its own milliseconds.
+    /// Says whether the device hears at `device_ms`, the milliseconds of the device's clock.
     pub fn open_at(&self, device_ms: u64) -> bool
         ensures { result ≡ is_open_c self.now.session_time self.now.timeout device_ms }
     {

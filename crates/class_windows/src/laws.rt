@@ -1,11 +1,11 @@
-//! What holds of the definitions alone.
+//! Laws about the definitions, each the contract of a function with an empty body.
 
 ghost use Rattle.std.specs.Prelude.{◌≡◌, ◌↔◌, ◌<◌, ◌*◌, ◌^◌, ℕ, IsTrue, Some};
 ghost use Rattle.class_windows.specs.Windows.{IsAfterUplink, IsRunning, IsInSlot, IsPinged};
 ghost use Rattle.class_windows.specs.Open.{is_after_uplink, is_running, is_in_slot, is_open_a, is_open_b, is_open_c};
 ghost use Rattle.class_windows.specs.WorkedWindows.{WorkedWindows, WorkedSlots, WorkedAnswers};
 
-/// Each test of a window is true exactly where its interval has the moment.
+/// Each test of a window is true exactly where the moment is in its interval.
 pub fn window_tests()
     ensures after_uplink { (due t : ℕ) → IsTrue (is_after_uplink due t) ↔ IsAfterUplink due t }
     ensures running { (start duration ms : ℕ) → start < 2 ^ 32 → duration < 2 ^ 32
@@ -24,7 +24,7 @@ pub fn classes_hear_in_their_intervals()
         ↔ IsPinged time periodicity timeout ms addr }
 {}
 
-/// Windows, slots and answers that are worked out.
+/// Windows, slots and answers, worked out.
 pub fn worked_windows()
     ensures windows { WorkedWindows }
     ensures slots { WorkedSlots }

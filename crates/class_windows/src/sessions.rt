@@ -3,10 +3,10 @@
 ghost use Rattle.std.specs.Prelude.{◌≡◌};
 ghost use Rattle.class_windows.specs.Sessions.{error_bits, start_answer, time_to_start};
 
-/// The answer to a class session request (TS005-1.0.0): its error bits, and TimeToStart where there is none.
-/// Bit 4: the group is not there; bit 3: `freq` (100 Hz) is outside 863 to 870 MHz; bit 2: the data rate is above 5.
-/// TimeToStart is in seconds, at most 2^24 - 1, and 0 where the start is past; `device_time` and `start` are seconds of the
-/// device's clock. The limits of `freq` and of the data rate are this project's profile.
+/// Answers a McClassCSessionReq or McClassBSessionReq (TS005-1.0.0): the error bits, and TimeToStart where there is none. Bit 4:
+/// the group is not there; bit 3: `freq` (100 Hz) is outside 863 to 870 MHz; bit 2: the data rate is above 5. TimeToStart is in
+/// seconds, at most 2^24 - 1, and 0 where the start is past; `device_time` and `start` are seconds of the device's clock. The
+/// limits of `freq` and of the data rate are this project's profile.
 pub fn session_answer(
     group_there: bool,
     device_time: u32,

@@ -1,4 +1,4 @@
--- Clocks and corrections that are worked out (TS003-1.0.0).
+-- Clocks and corrections, worked out (TS003-1.0.0).
 use Rattle.std.specs.Prelude.{◌≡◌, ◌-◌, ◌^◌, true, false, pos, neg_ℤ}
 use Rattle.clock_sync.specs.Clock.{Clock, first_clock, device_time, device_millis, after_answer, correction_of, is_answer_needed}
 
@@ -7,7 +7,7 @@ abbrev pub ahead : Clock
 ahead = first_clock 5
 
 pub record WorkedClocks : Type 0 where
-  -- its time at 10,999 ms, and that of a clock 1 s after, which begins anew
+  -- its time at 10,999 ms, and that of a clock 1 s later, which starts again from 0
   pub seconds : device_time ahead 10999 ≡ 15
   pub millis : device_millis ahead 10999 ≡ 15999
   pub round : device_time (first_clock (2 ^ 32 - 1)) 3000 ≡ 2

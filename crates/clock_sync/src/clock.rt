@@ -6,7 +6,7 @@ ghost use Rattle.clock_sync.specs.Clock.{first_clock, device_time, device_millis
 use std::marker::Model;
 use sync_wire::Cmd;
 
-/// What became of an AppTimeAns.
+/// What an AppTimeAns (TS003-1.0.0) does to a clock.
 #[derive(Clone, Copy, Debug, PartialEq, Eq)]
 pub enum Taken {
     /// Its correction was added.
@@ -36,14 +36,14 @@ impl Model for DeviceClock {
 }
 
 impl DeviceClock {
-    /// A clock that is `offset` seconds ahead of true time, before its first request.
+    /// Makes a clock that is `offset` seconds ahead of true time, before its first request.
     pub fn new(offset: u32) -> Self
         ensures { result ≡ first_clock offset }
     {
         DeviceClock::with_token(offset, 0)
     }
 
-    /// A clock that is `offset` seconds ahead of true time, and whose next request has this token, 0 to 15.
+    /// Makes a clock that is `offset` seconds ahead of true time, and whose next request has this token, 0 to 15.
     pub fn with_token(offset: u32, token: u8) -> Self
         requires { token < 16 }
         ensures { result ≡ record { offset = offset; token = token } }
@@ -51,14 +51,14 @@ impl DeviceClock {
         DeviceClock { offset, token }
     }
 
-    /// The device's time in seconds, modulo 2^32, at `t` ms of true time.
+    /// Returns the device's time in seconds, modulo 2^32, at `t` ms of true time.
     pub fn now(&self, t: u64) -> u32
         ensures { result ≡ device_time self.now t }
     {
         ((t / 1000 + self.offset as u64) % (1 << 32)) as u32
     }
 
-    /// The device's time in ms, modulo 1000 * 2^32, at `t` ms of true time.
+    /// Returns the device's time in ms, modulo 1000 * 2^32, at `t` ms of true time.
     pub fn millis(&self, t: u64) -> u64
         ensures value { result ≡ device_millis self.now t }
         ensures within { result < 1000 * 2 ^ 32 }
@@ -66,7 +66,7 @@ impl DeviceClock {
         (t % MILLIS_ROUND + 1000 * self.offset as u64) % MILLIS_ROUND
     }
 
-    /// AppTimeReq at `t` ms of true time; `required` is AnsRequired.
+    /// Makes an AppTimeReq at `t` ms of true time; `required` is AnsRequired.
     pub fn request(&self, t: u64, required: bool) -> Cmd
         ensures value { result ≡ Cmd.AppTimeReq (device_time self.now t) required self.now.token }
         ensures token { self.now.token < 16 }
@@ -78,8 +78,8 @@ impl DeviceClock {
         }
     }
 
-    /// Takes an AppTimeAns: where its token is the clock's its correction in seconds is added, and the token is raised
-    /// modulo 16; else nothing changes.
+    /// Takes an AppTimeAns: where its token is the clock's, its correction in seconds is added, and the token is raised modulo
+    /// 16; else nothing changes.
     pub fn take_answer(&mut self, correction: i32, token: u8) -> Taken
         ensures other_token { (result ≡ Taken.OtherToken) ↔ (token ≢ self.old.token) }
         ensures value { self.new ≡ after_answer correction token self.old }
@@ -92,14 +92,14 @@ impl DeviceClock {
         Taken::Set
     }
 
-    /// The seconds that it is ahead of true time, modulo 2^32.
+    /// Returns the seconds that the clock is ahead of true time, modulo 2^32.
     pub fn offset(&self) -> u32
         ensures { result ≡ self.now.offset }
     {
         self.offset
     }
 
-    /// The token of its next AppTimeReq, 0 to 15.
+    /// Returns the token of its next AppTimeReq, 0 to 15.
     pub fn token(&self) -> u8
         ensures value { result ≡ self.now.token }
         ensures few { result < 16 }
@@ -108,5 +108,5 @@ impl DeviceClock {
     }
 }
 
-/// The milliseconds after which a clock of 32 bits of seconds begins anew.
+/// The milliseconds after which a clock of 32 bits of seconds starts again from 0.
 const MILLIS_ROUND: u64 = 1000 << 32;

@@ -1,4 +1,4 @@
-//! What holds of the definitions alone.
+//! Laws about the definitions, each the contract of a function with an empty body.
 
 ghost use Rattle.std.specs.Prelude.{◌≡◌, ℕ, ◌/◌, ◌%◌, ◌^◌, ◌<◌, ℤ, pos, ◌+ℤ◌, ◌*ℤ◌, FitsSigned};
 ghost use Rattle.std.specs.Int.{w32};
@@ -14,7 +14,7 @@ pub fn correction_is_the_one()
         → IsCorrection server device c → IsCorrection server device d → c ≡ d }
 {}
 
-/// A clock that takes the correction of that moment shows the server's time.
+/// A clock that takes the correction of a moment shows the server's time of that moment.
 pub fn correction_mends_the_clock()
     ensures { (server t : ℕ) (old new : Clock) (c : ℤ)
         → IsCorrection server (device_time old t) c → IsCorrected old c new
@@ -26,7 +26,7 @@ pub fn millis_are_of_the_seconds()
     ensures { (clock : Clock) (t : ℕ) → device_millis clock t / 1000 ≡ device_time clock t }
 {}
 
-/// Numbers with one remainder are those that differ by a multiple.
+/// Numbers have one remainder exactly where they differ by a multiple.
 pub fn congruent_by_a_multiple()
     ensures multiple { (x y : ℤ) → IsCongruent (2 ^ 32) x y
         → (k : ℤ) × (x ≡ y +ℤ k *ℤ pos (2 ^ 32)) }
@@ -39,7 +39,7 @@ pub fn an_answer_corrects()
         → IsCorrected clock correction (after_answer correction clock.token clock) }
 {}
 
-/// Times and corrections of clocks that are worked out.
+/// Times and corrections of clocks, worked out.
 pub fn worked_clocks()
     ensures { WorkedClocks }
 {}

@@ -1,6 +1,6 @@
 //! Clock synchronization (TS003-1.0.0), both ends.
-//! A device's time is true time and its offset, and the correction is the one signed number that mends it.
-//! Commands as bytes are left to `sync_wire`, and when a device asks to the crates above.
+//! A device's time is true time plus its offset, and the correction is the one signed number that sets it right. Commands as
+//! bytes are left to `sync_wire`; when a device asks is left to the crates above.
 //!
 //!     let mut clock = DeviceClock::new(0);
 //!     let request = clock.request(t, true);                    // AppTimeReq; t in ms

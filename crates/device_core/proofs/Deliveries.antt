@@ -40,7 +40,7 @@ counts_stay t device counts = by_due (is_due (device_time device.clock t) device
     by_due true is = rw is refl
     by_due false is = rw is refl
 
--- a delivery that does not act changes its counter alone
+-- a delivery that does not act changes only its counter
 pub record IsCounted (old : DeviceState) (made : Outcome Delivered) : Type 0 where
   pub deaf : made.answer ≡ Deaf → made.device ≡ with_counts after_deaf old
   pub refused : (refusal : Refusal) → made.answer ≡ Refused refusal → made.device ≡ with_counts after_refused old

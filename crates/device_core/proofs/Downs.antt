@@ -124,7 +124,7 @@ delivered_stored {F} seen old mid then new x t word mark down tables same last b
     (sym (reboot_keeps t e).sessions)
     (subst (λ (s : HeldStore F). StateIsStored s.state e.sessions (seen s.flash)) (sym last) behind)
 
--- what a stop leaves between two calls, told of the store
+-- what a stop leaves between two calls, for the store
 pub between_at : {F : Type 0} (seen : F → FlashSeen) (old : HeldDevice F) (s : HeldStore F) → old.sessions ≡ s
     → ((t : SessionTable) → StateIsHeld s.state t (seen s.flash) → (c : List ℕ) → left (seen s.flash) c → TableLies s.layout t c)
     → (t : SessionTable) → StateIsHeld old.sessions.state t (seen old.sessions.flash)

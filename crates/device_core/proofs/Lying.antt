@@ -1,4 +1,4 @@
--- Fields that lie in a list of bytes, each at its place.
+-- Fields in a list of bytes, each at its place.
 use Rattle.std.proofs.Common.{◌≡◌, ℕ, zero, suc, ◌+◌, ◌-◌, ◌*◌, ◌^◌, ◌<◌, List, [], ◌∷◌, ◌++◌, length, get_or, take, drop, refl, sym, ap, ◌∙◌, append_assoc, length-append, arith}
 use Rattle.std.proofs.lemmas.List.{get_or-append-add}
 use Rattle.std.proofs.lemmas.Nat.{pow-add}
@@ -6,14 +6,14 @@ use Rattle.std.specs.Prelude.{slice_range}
 use Rattle.wire_base.specs.Numbers.{number_at, number_bytes}
 use Rattle.wire_base.proofs.NumberLaws.{number_at-number_bytes}
 
--- the field lies at the place
+-- the field is at the place
 pub record Lies (field bytes : List ℕ) (place : ℕ) : Type 0 where
   pub before : List ℕ
   pub after : List ℕ
   pub whole : bytes ≡ before ++ (field ++ after)
   pub at : length before ≡ place
 
--- what is put together lies apart
+-- what is put together is there part by part
 pub lies_first : (f g bytes : List ℕ) (place : ℕ) → Lies (f ++ g) bytes place → Lies f bytes place
 lies_first f g bytes place lies = record {
   before = lies.before;

@@ -77,7 +77,7 @@ running_told hw slots bytes running next = by_byte (get_or bytes 186 0 == 0)
     by_byte true = refl
     by_byte false = refl
 
--- the record that was told
+-- the record that the bytes say
 pub told_record : {F : Type 0} (config : DeviceConfig) (flash : F) (held new : HeldDevice F) (saved running next : List ℕ) (result : Bool)
     → Starts config flash held → Takes held new saved running next result → result ≡ true
     → device_of new no_sessions ≡ told_of (first_device config) saved running next

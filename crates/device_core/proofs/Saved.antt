@@ -27,7 +27,7 @@ use Rattle.device_core.specs.SavingInside.{group_in, place_in, groups_in, sessio
 use Rattle.device_core.proofs.Lying.{Lies, lies_first, lies_rest, number_below}
 use Rattle.device_core.proofs.SavedFields.{clock_back, moment_back, length-group_bytes, fits_at, groups_back, session_back, reboot_back, counts_back, SlotsLie, slots_back, flags_back, length-uplinks, uplinks_back}
 
--- ---- where each part lies
+-- ---- where each part is
 
 pub record Parts (c m g s r n t f u bytes : List ℕ) : Type 0 where
   pub clock : Lies c bytes 0
@@ -148,7 +148,7 @@ slots_same : (slots : Slots) (formats version : ℕ) (next : ImageState) (file :
     → (let told : Slots = record { formats = formats; version = version; running = slots.running; next = next; next_file = file } in told) ≡ slots
 slots_same slots formats version next file a b c d = rw (a, b, c, d) refl
 
--- slots are told as they were
+-- slots are read as they were
 slots_told : (config : DeviceConfig) (slots : Slots) (bytes : List ℕ) → AreSlots config slots → SlotsLie slots bytes
     → slots_in config.hw (first_slots config.formats) bytes slots.running slots.next_file ≡ slots
 slots_told config slots bytes are lie =
@@ -318,7 +318,7 @@ none_of : (file : List ℕ) → length file ≡ 0 → file ≡ []
 none_of [] is = refl
 none_of (x ∷ file) is = absurd (omega (arith, is))
 
--- a next that comes for none has no bytes, so that it is the one that is told
+-- a file that comes for a next that is none has no bytes, so that next is what was saved
 pub files_told : (config : DeviceConfig) (bytes running next : List ℕ) → CanTake config bytes running next
     → (told_of (first_device config) bytes running next).slots.next_file ≡ next
 files_told config bytes running next fits = by_byte (get_or bytes 186 0 == 0) refl

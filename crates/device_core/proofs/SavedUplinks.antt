@@ -18,7 +18,7 @@ use Rattle.device_core.specs.Sendable.{IsUplink}
 use Rattle.device_core.specs.Saving.{uplink_bytes}
 use Rattle.device_core.specs.SavingInside.{uplink_at}
 
--- an uplink's payload is read as its command alone
+-- an uplink's payload is read as its one command
 pub read_uplink : (uplink : Uplink) (is : IsUplink uplink) → reading_of uplink.port Up uplink.payload ≡ Ok (is.command ∷ [])
 read_uplink uplink is =
     ap (λ (bytes : List ℕ). reading_of uplink.port Up bytes) is.bytes

@@ -30,12 +30,12 @@ one_answer here device command = record { device = device; answers = answer_at_o
 abbrev pub uplink_of : Answer → Uplink
 uplink_of answer = record { due = answer.due; port = answer.port; payload = canonical answer.command }
 
--- when the uplink made last is due: of some more, that of the last
+-- when the uplink made last is due: of several answers, the last one
 abbrev pub due_after : Option ℕ → List Answer → Option ℕ
 due_after last [] = last
 due_after last (answer ∷ answers) = due_after (Some answer.due) answers
 
--- the answers lie in the outbox after what was there
+-- the answers are in the outbox after what was there
 unfoldable pub after_answers : DeviceStep → DeviceState
 after_answers step = record step.device {
   outbox = step.device.outbox ++ map uplink_of step.answers;

@@ -1,4 +1,4 @@
--- Commands that are of no session.
+-- Commands that belong to no session.
 use Rattle.cast_wire.specs.declared.cmd.Cmd.{Cmd}
 use Rattle.cast_wire.specs.declared.cmd.Cmd.TheVariants as c
 

@@ -49,7 +49,7 @@ class_session_step here device session freq dr =
 
 -- ---- hearing
 
--- by unicast: class C always, class A in the windows after the uplink that it made last
+-- by unicast: class C always, class A in the windows after the uplink made last
 abbrev pub hears_unicast : Class → (last_due : Option ℕ) → (t : ℕ) → Bool
 hears_unicast class.C last_due t = true
 hears_unicast class.A last_due t = is_open_a last_due t

@@ -27,7 +27,7 @@ pub record Outcome (A : Type 0) : Type 0 where
   pub device : DeviceState
   pub answer : A
 
--- ---- a payload comes: the checks, one after another; each that fails changes its counter alone
+-- ---- a payload comes: the checks, one after another; each that fails changes only its counter
 
 -- a message: it acts where the outbox has room for its weights
 unfoldable pub message_delivery : Arrival → DeviceState → List Command → Outcome Delivered

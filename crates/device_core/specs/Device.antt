@@ -17,7 +17,7 @@ use Rattle.device_core.specs.SessionTable.{SessionTable, no_sessions}
 -- what is kept for the rows of a session
 pub use Rattle.session_store.specs.Rows.{row_words, row_bytes}
 
--- clock: its offset and token; last_due: when the uplink that it made last is due, in ms of true time;
+-- clock: its offset and token; last_due: when the uplink made last is due, in ms of true time;
 -- groups: a place for each id; reboot: the moment that is set, in seconds of its clock;
 -- outbox: the uplinks not yet taken, oldest first
 pub record DeviceState : Type 0 where
@@ -32,7 +32,7 @@ pub record DeviceState : Type 0 where
   pub outbox : List Uplink
   pub counts : Counts
 
--- at its start it has its configuration, and nothing is heard, held or set
+-- at its start it has its configuration; nothing is heard, held or set
 abbrev pub first_device : DeviceConfig → DeviceState
 first_device config = record {
   config = config;
@@ -84,7 +84,7 @@ is_config config =
     && (nat_le 1 config.groups && nat_le config.groups max_groups)
     && (nat_le 1 config.area && nat_le config.area max_area)
 
--- where its sessions are held in flash, their ranges are long enough and lie within so many bytes
+-- where its sessions are held in flash, their ranges are long enough and within so many bytes
 abbrev pub has_ranges : DeviceConfig → (room : ℕ) → Bool
 has_ranges config room =
     if config.held then nat_le records_place config.span && nat_le (4 * config.span) room else true

@@ -13,7 +13,7 @@ use Rattle.device_core.specs.Answers.{DeviceStep, one_answer}
 unfoldable pub groups_step : Arrival → DeviceState → (mask : ℕ) → DeviceStep
 groups_step here device mask = one_answer here device (Cast (status_answer device.groups mask))
 
--- McGroupSetupReq: IDerror where the id is not configured, else the group takes the place of what the id had
+-- McGroupSetupReq: IDerror where the id is not configured, else the group replaces what the id had
 unfoldable pub group_setup_step : Arrival → DeviceState → (id : ℕ) → Group → DeviceStep
 group_setup_step here device id group =
     if nat_le (length device.groups) id

@@ -1,4 +1,4 @@
--- What calls of a device promise of its flash, beside what they make of the record.
+-- What calls of a device promise of its flash, besides what they do to the record.
 use Rattle.std.specs.Prelude.{◌≡◌, ◌⊎◌, ℕ, ◌≤◌, true, false, List, ◌∷◌, ◌++◌, Result, Ok, is_ok, OnOk, OnErr}
 use Rattle.wire_base.specs.declared.refusal.Direction.TheVariants as direction
 use Rattle.package_grammar.specs.declared.command.Command.{Command}

@@ -1,4 +1,4 @@
--- What a device holds, for which records it stands, and what a call makes of both.
+-- What a device holds, for which records it stands, and what a call does to both.
 use Rattle.std.specs.Prelude.{◌≡◌, ℕ, ◌+◌, ◌≤◌, Bool, true, false, not, ◌&&◌, IsTrue, List, [], ◌∷◌, ◌++◌, map, length, Option, Some, None, Result, Ok, Err}
 use Rattle.clock_sync.specs.Clock.{Clock}
 use Rattle.mc_group.specs.declared.group.Group.{Group}
@@ -54,11 +54,11 @@ pub record DeviceStands {F : Type 0} (held : HeldDevice F) (device : DeviceState
 
 -- ---- what a call makes
 
--- what is held went this way, whatever it stood for
+-- what is held changed this way, for any record it stood for
 abbrev pub Becomes : {F : Type 0} → (old new : HeldDevice F) → (DeviceState → DeviceState) → Type 0
 Becomes old new after = (device : DeviceState) → DeviceStands old device → DeviceStands new (after device)
 
--- what is held went as this call does, and the answer is the call's, whatever it stood for
+-- what is held changed as this call does, and the answer is the call's, for any record it stood for
 pub record Makes {F : Type 0} (A : Type 0) (old new : HeldDevice F) (answer : A) (call : DeviceState → Outcome A) : Type 0 where
   pub stands : Becomes old new (λ device. (call device).device)
   pub answers : (device : DeviceState) → DeviceStands old device → answer ≡ (call device).answer
@@ -93,7 +93,7 @@ IsReserved config room flash (Err Memory) = IsTrue (can_reserve config room)
 
 -- ---- what a command makes
 
--- answers lie in the outbox after what was there
+-- answers are in the outbox after what was there
 abbrev pub held_with_answers : {F : Type 0} → HeldDevice F → List Answer → HeldDevice F
 held_with_answers held answers = record held {
   outbox = held.outbox ++ map uplink_of answers;

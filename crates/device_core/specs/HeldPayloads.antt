@@ -1,4 +1,4 @@
--- What calls that bring a payload promise of a device and of its flash, beside what they make of the record.
+-- What calls that bring a payload promise of a device and of its flash, besides what they do to the record.
 use Rattle.std.specs.Prelude.{◌≡◌, ◌≢◌, ℕ, false, List, Result, OnOk, OnErr, IfOk}
 use Rattle.package_grammar.specs.declared.command.Command.{Command}
 use Rattle.package_grammar.specs.declared.downlink.Downlink.{Downlink}
@@ -24,8 +24,8 @@ use Rattle.device_core.specs.SessionTable.{SessionTable}
 
 -- ---- the public calls
 
--- What a call that brings a payload makes, whatever its answer; one answer says that the sessions are down, one that the
--- flash failed.
+-- What a call that brings a payload makes, with any answer. One answer says that the sessions are down, another that the flash
+-- failed.
 pub record Serves {F A : Type 0} (seen : F → FlashSeen)
     (old new : HeldDevice F) (answer is_down has_failed : A) (call : DeviceState → Outcome A)
     (stopped : DeviceState → HeldDevice F → Type 0) (tables : DeviceState → List SessionTable) : Type 0 where
@@ -64,7 +64,7 @@ Airs seen old new answer t word mark bytes =
 
 -- ---- between two reboots that are due, at a device that is up
 
--- What a payload that was read so makes. Where the flash failed, it would have acted.
+-- What a payload that was read so makes; where the flash failed, it would have acted.
 pub record Hears {F : Type 0} (seen : F → FlashSeen)
     (old new : HeldDevice F) (result : Result Delivered store.FlashFault) (call : DeviceState → Outcome Delivered)
     (here : DeviceState → Arrival) (reading : Reading) (tables : DeviceState → List SessionTable) : Type 0 where

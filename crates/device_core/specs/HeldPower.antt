@@ -1,4 +1,4 @@
--- What power at a device promises, that opens the sessions held in its flash.
+-- What power at a device promises; it opens the sessions held in its flash.
 use Rattle.std.specs.Prelude.{◌≡◌, ℕ, List, Result, OnOk, OnErr, MatchResult}
 use Rattle.flash_session.specs.declared.fault.OpenFault.{OpenFault}
 use Rattle.flash_session.specs.declared.fault.OpenFault.TheVariants as fault
@@ -18,7 +18,7 @@ use Rattle.device_core.specs.SessionTable.{SessionTable}
 -- what power makes of a device and of its flash
 pub record Powers {F : Type 0} (seen : F → FlashSeen)
     (old new : HeldDevice F) (result : Result (Unit {0}) OpenFault) : Type 0 where
-  -- what lies there for sessions is what they are after it, or the flash failed
+  -- what is there for sessions is what they are after it, or the flash failed
   pub opened : (whole : CompleteFlags) → HadWhole old.sessions.state whole
       → (table : SessionTable) (b : List ℕ) → (seen new.sessions.flash).holds b → TableLies old.sessions.layout table b
       → MatchResult result

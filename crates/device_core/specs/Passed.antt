@@ -71,7 +71,7 @@ frame_tables t word mark (Err fault) device = []
 abbrev pub tables_aired : (t word mark : ℕ) → List ℕ → DeviceState → List SessionTable
 tables_aired t word mark bytes device = frame_tables t word mark (brought device bytes) device
 
--- one of these lies there, so that opening gives it
+-- one of these is there, so that opening gives it
 abbrev pub LiesOneOf : Layout → List SessionTable → List ℕ → Type 0
 LiesOneOf layout [] c = ⊥
 LiesOneOf layout (table ∷ others) c = TableLies layout table c ⊎ LiesOneOf layout others c

@@ -1,5 +1,5 @@
--- Bytes that the radio heard come to a device, as a multicast frame (LoRaWAN 1.0.x, 4; this project's profile: which group is
--- heard, and what becomes of other bytes).
+-- Bytes that the radio heard come to a device as a multicast frame (LoRaWAN 1.0.x, 4; which group is heard, and what happens to
+-- other bytes, is this project's profile).
 use Rattle.std.specs.Prelude.{ℕ, List, Option, Some, None, Result, Ok, Err}
 use Rattle.package_grammar.specs.declared.downlink.To.TheVariants as to
 use Rattle.package_grammar.specs.declared.downlink.Downlink.{Downlink}
@@ -48,7 +48,7 @@ brought device bytes = brought_to (heard_group device.groups device.class_sessio
 abbrev pub aired : Outcome Delivered → Outcome Aired
 aired made = record { device = made.device; answer = Heard made.answer }
 
--- a payload is delivered; other bytes change nothing but a reboot that is due and the counter of what was not heard
+-- a payload is delivered; other bytes change only the counter of what was not heard, and a reboot that is due is carried out
 abbrev pub after_frame : (t word mark : ℕ) → Result Downlink FrameFault → DeviceState → Outcome Aired
 after_frame t word mark (Ok down) device = aired (delivery t word mark down device)
 after_frame t word mark (Err fault) device =

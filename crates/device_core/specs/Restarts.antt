@@ -13,7 +13,7 @@ pub record LastsThroughRestart : Type 0 where
   pub apart : (config : DeviceConfig) (saved running next : List ℕ) (a b : DeviceState) (whole_a whole_b : CompleteFlags)
       → IsSaved config saved running next a whole_a → IsSaved config saved running next b whole_b
       → (record a { sessions = no_sessions } ≡ record b { sessions = no_sessions }) × (whole_a ≡ whole_b)
-  -- power gives a restored device, whose sessions lie in its flash, the record that was saved: no file is offered again
+  -- power gives a restored device, whose sessions are in its flash, the record that was saved: no file is offered again
   pub same : (config : DeviceConfig) (saved running next : List ℕ) (device again : DeviceState) (whole : CompleteFlags)
       → IsSaved config saved running next device (flags_of device.sessions) → IsSaved config saved running next again whole
       → after_power whole device.sessions again ≡ device

@@ -47,7 +47,7 @@ RunsNone slots = (slots.version ≡ 0) × (slots.running ≡ [])
 abbrev pub RunsImage : (hw : ℕ) → Slots → Type 0
 RunsImage hw slots = RunsNone slots ⊎ (image_state slots.running hw slots.formats ≡ Valid slots.version)
 
--- whatever calls, payloads and moments come to a device of any configuration
+-- for any calls, payloads and moments that come to a device of any configuration
 pub record RunsImagesAlone : Type 0 where
   pub calls : (config : DeviceConfig) (calls : List Call)
       → RunsImage config.hw (after_calls (first_device config) calls).slots

@@ -1,5 +1,5 @@
--- What a device knows, as bytes (this project's profile). Neither its configuration nor its files are among them: the digest
--- says to which they belong. Nor are its sessions: those that are held lie in the flash. Numbers of several bytes have the
+-- What a device knows, as bytes (this project's profile). They have neither its configuration nor its files: the digest says to
+-- which they belong. Nor do they have its sessions: those that are held are in the flash. Numbers of several bytes have the
 -- lowest first. An option is a byte 1 and its fields, or zeros.
 --    0  FUSD, and the format, 1
 --    5  the seconds that its clock is ahead, of 4 bytes, and the token of its next request
@@ -119,7 +119,7 @@ abbrev pub uplinks_bytes : List Uplink → List ℕ
 uplinks_bytes uplinks =
     length uplinks ∷ flat_map uplink_bytes uplinks ++ replicate (256 - 32 * length uplinks) 0
 
--- ---- the configuration, for the digest alone
+-- ---- the configuration, only for the digest
 
 abbrev pub class_byte : Class → ℕ
 class_byte class.A = 0

@@ -1,4 +1,4 @@
--- What bytes say of a device, those of a saved one or any others.
+-- The fields of a saved device, read from any bytes.
 use Rattle.std.specs.Prelude.{◌≡◌, ℕ, ◌+◌, ◌*◌, ◌%◌, ◌≤◌, min, Bool, true, false, not, ◌==◌, if◌then◌else◌, List, length, map, slice_index, slice_range, Option, Some, None}
 use Rattle.std.specs.List.{range_with_len, AllByRecursion}
 use Rattle.wire_base.specs.Numbers.{number_at}
@@ -25,7 +25,7 @@ use Rattle.device_core.specs.HeldDevice.{HeldDevice, device_of}
 use Rattle.device_core.specs.HeldSessions.{IsUp}
 use Rattle.device_core.specs.SessionTable.{SessionTable}
 
--- why there is no device, as why none was restored
+-- the same error, as that of restore
 abbrev pub restore_error : ReserveError → RestoreError
 restore_error new.Memory = restored.Memory
 restore_error new.BadConfig = restored.BadConfig

@@ -1,4 +1,4 @@
--- Steps of a device that are worked out: what comes to it, in bytes, and what it then sends and holds.
+-- Steps of a device, worked out: what comes to it, in bytes, and what it then sends and holds.
 use Rattle.std.specs.Prelude.{◌≡◌, ℕ, ◌-◌, ◌^◌, true, false, List, [], ◌∷◌, ◌++◌, length, map, drop, Option, Some, None, Ok, Err, replicate}
 use Rattle.wire_base.specs.declared.refusal.Why.TheVariants as why
 use Rattle.package_grammar.specs.declared.downlink.To.TheVariants.{Unicast, Group}
@@ -105,7 +105,7 @@ pub record UplinkSteps : Type 0 where
   -- an answer is due at once, on the port of the request
   pub at_once : (after 7 203 (0x00 ∷ []) fresh).outbox ≡ record { due = 7; port = 203; payload = 0x00 ∷ 0x04 ∷ 0x01 ∷ [] } ∷ []
   pub last_due : (after 7 202 (0x00 ∷ []) fresh).last_due ≡ Some 7
-  -- of several the moment of the one that was made last counts, also where another is due later
+  -- of several the moment of the one that was made last counts, even where another is due later
   pub made_last : (after_answers (record { device = fresh; answers = version_due 9 ∷ version_due 5 ∷ [] })).last_due
       ≡ Some 5
   -- eight uplinks are held, oldest first; a ninth refuses its whole payload
@@ -117,7 +117,7 @@ pub record UplinkSteps : Type 0 where
       ≡ record eight_held { outbox = (taking eight_held).device.outbox }
   pub nine : answer 0 202 (0x03 ∷ 0x07 ∷ 0x00 ∷ 0x00 ∷ []) fresh ≡ OutboxFull 9
   pub nothing_acted : payloads (after 0 202 (0x03 ∷ 0x07 ∷ 0x00 ∷ 0x00 ∷ []) fresh) ≡ []
-  -- those that are held count, and what makes no answer acts still
+  -- those that are held count, and a command that makes no answer still acts
   pub held : answer 0 202 (0x00 ∷ []) eight_held ≡ OutboxFull 9
   -- a device that wakes asks for the time where there is room
   pub no_room_to_wake : (waking 7 eight_held).device ≡ eight_held
@@ -134,7 +134,7 @@ pub record UplinkSteps : Type 0 where
   pub dropped : (after 0 201 (0x08 ∷ 0x01 ∷ 0x00 ∷ 0x07 ∷ []) fresh).counts ≡ record { deaf = 0; refused = 0; full = 0; dropped = 1 }
   pub end : counter_after (2 ^ 64 - 1) ≡ 2 ^ 64 - 1
 
--- ---- the clock: 5 s ahead, and mended once
+-- ---- the clock: 5 s ahead, and corrected once
 
 abbrev pub ahead : DeviceState
 ahead = first_device (worked_config C 5)
@@ -172,7 +172,7 @@ set_up = taken (after 0 201 setup_request fresh)
 abbrev pub here_201 : Arrival
 here_201 = record { moment = record { t = 0; word = 0; mark = 1 }; via = via.Unicast; port = 201 }
 
--- how the status of the session of index 1 is told, as bytes, where it is
+-- how a device answers the status of the session of index 1, as bytes, where it does
 abbrev pub told_status : Option StatusAns → List (List ℕ)
 told_status status =
     map payload_of (map uplink_of (status_answers here_201 1 status))
@@ -186,11 +186,11 @@ small =
 abbrev pub hears_small : DeviceState → DeviceState
 hears_small device = after 0 201 (0x08 ∷ 0x01 ∷ 0x40 ∷ 0x07 ∷ []) device
 
--- a device with a session of index 2 alone
+-- a device with only a session of index 2
 abbrev pub at_2 : DeviceState
 at_2 = after 0 201 (0x02 ∷ 0x20 ∷ 0x01 ∷ 0x00 ∷ 0x01 ∷ 0x00 ∷ 0x00 ∷ 0x00 ∷ 0x00 ∷ 0x00 ∷ 0x00 ∷ []) fresh
 
--- what a session tells that heard fragments: here the one that there is, three times
+-- what a session that heard fragments answers: here the one that there is, three times
 pub record StatusSteps : Type 0 where
   pub three : sends 0 201 (0x01 ∷ 0x03 ∷ []) (hears_small (hears_small (hears_small small)))
       ≡ (0x01 ∷ 0x03 ∷ 0x40 ∷ 0x00 ∷ 0x00 ∷ []) ∷ []
@@ -203,7 +203,7 @@ pub record SessionSteps : Type 0 where
   pub status : sends 0 201 (0x01 ∷ 0x03 ∷ []) set_up ≡ (0x01 ∷ 0x00 ∷ 0x40 ∷ 0x04 ∷ 0x00 ∷ []) ∷ []
   pub missing : sends 0 201 (0x01 ∷ 0x02 ∷ []) set_up ≡ (0x01 ∷ 0x00 ∷ 0x40 ∷ 0x04 ∷ 0x00 ∷ []) ∷ []
   pub other_index : sends 0 201 (0x01 ∷ 0x01 ∷ []) set_up ≡ []
-  -- it tells the fragments that it received, those that are missing, and whether its rows sufficed
+  -- it answers how many fragments it received and how many are missing, and whether its rows sufficed
   pub many : told_status (Some (record { received = 259; missing = 7; norows = true; delay = 2 }))
       ≡ (0x01 ∷ 0x03 ∷ 0x41 ∷ 0x07 ∷ 0x01 ∷ []) ∷ []
   -- sessions of different indices are different
@@ -212,7 +212,7 @@ pub record SessionSteps : Type 0 where
   pub undelayed : answer_delay via.Unicast 109 2 ≡ 0
   -- it is deleted once
   pub deleted : sends 0 201 (0x03 ∷ 0x01 ∷ 0x03 ∷ 0x01 ∷ []) set_up ≡ (0x03 ∷ 0x01 ∷ []) ∷ (0x03 ∷ 0x05 ∷ []) ∷ []
-  -- setups that are refused: no fragments, all padding, too many, a coding of their own, an index or a descriptor that is not taken
+  -- setups that are refused: no fragments, all padding, too many, another coding, an index or a descriptor that is not accepted
   pub no_fragments : sends 0 201 (0x02 ∷ 0x00 ∷ 0x00 ∷ 0x00 ∷ 0x01 ∷ 0x00 ∷ 0x00 ∷ 0x00 ∷ 0x00 ∷ 0x00 ∷ 0x00 ∷ []) fresh ≡ (0x02 ∷ 0x01 ∷ []) ∷ []
   pub all_padding : sends 0 201 (0x02 ∷ 0x00 ∷ 0x04 ∷ 0x00 ∷ 0x01 ∷ 0x00 ∷ 0x01 ∷ 0x00 ∷ 0x00 ∷ 0x00 ∷ 0x00 ∷ []) fresh ≡ (0x02 ∷ 0x01 ∷ []) ∷ []
   pub over_area : sends 0 201 (0x02 ∷ 0x00 ∷ 0x01 ∷ 0x04 ∷ 0x01 ∷ 0x00 ∷ 0x00 ∷ 0x00 ∷ 0x00 ∷ 0x00 ∷ 0x00 ∷ []) fresh ≡ (0x02 ∷ 0x00 ∷ []) ∷ []
@@ -309,7 +309,7 @@ pub record GroupSteps : Type 0 where
   pub asked_for : sends 0 200 (0x01 ∷ 0x0e ∷ []) grouped ≡ (0x01 ∷ 0x24 ∷ 0x02 ∷ 0x88 ∷ 0x77 ∷ 0x66 ∷ 0x55 ∷ []) ∷ []
   pub no_group : sends 0 200 (0x03 ∷ 0x01 ∷ []) fresh ≡ (0x03 ∷ 0x05 ∷ []) ∷ []
   pub deleted : sends 0 200 (0x03 ∷ 0x00 ∷ 0x03 ∷ 0x00 ∷ []) grouped ≡ (0x03 ∷ 0x00 ∷ []) ∷ (0x03 ∷ 0x04 ∷ []) ∷ []
-  -- a group that is set up anew takes the place of what its id had
+  -- a group that is set up anew replaces what its id had
   pub anew : sends 0 200 (group_setup 2 0x0d 0x0c 0x0b 0x0a ++ 0x01 ∷ 0x04 ∷ []) grouped
       ≡ (0x02 ∷ 0x02 ∷ []) ∷ (0x01 ∷ 0x24 ∷ 0x02 ∷ 0x0d ∷ 0x0c ∷ 0x0b ∷ 0x0a ∷ []) ∷ []
   pub id_error : sends 0 200 (group_setup 3 0 0 0 0) (first_device (record (worked_config C 0) { groups = 2 })) ≡ (0x02 ∷ 0x07 ∷ []) ∷ []
@@ -320,7 +320,7 @@ pub record GroupSteps : Type 0 where
   pub to_start : sends 1000000 200 session_request (record grouped { clock = record { offset = 7; token = 0 } })
       ≡ (0x04 ∷ 0x00 ∷ 0x03 ∷ 0x00 ∷ 0x00 ∷ []) ∷ []
   pub errors : sends 1000000 200 (0x04 ∷ 0x00 ∷ 0xf2 ∷ 0x03 ∷ 0x00 ∷ 0x00 ∷ 0x00 ∷ 0x00 ∷ 0x00 ∷ 0x00 ∷ 0x06 ∷ []) fresh ≡ (0x04 ∷ 0x1c ∷ []) ∷ []
-  -- one bit alone: no such group, the frequency, the data rate
+  -- one bit by itself: no such group, the frequency, the data rate
   pub undefined : sends 1000000 200 (request_with 1 0x28 0x76 0x84 5) grouped ≡ (0x04 ∷ 0x11 ∷ []) ∷ []
   pub freq_error : sends 1000000 200 (request_with 2 0x00 0x00 0x00 5) grouped ≡ (0x04 ∷ 0x0a ∷ []) ∷ []
   pub dr_error : sends 1000000 200 (request_with 2 0x28 0x76 0x84 6) grouped ≡ (0x04 ∷ 0x06 ∷ []) ∷ []
@@ -343,7 +343,7 @@ pub record GroupSteps : Type 0 where
   -- 1,030 s are rounded down to 1,024 s
   pub next_beacon : sends 1000000 200 (0x05 ∷ 0x00 ∷ 0x06 ∷ 0x04 ∷ 0x00 ∷ 0x00 ∷ 0x00 ∷ 0x28 ∷ 0x76 ∷ 0x84 ∷ 0x00 ∷ []) grouped
       ≡ (0x05 ∷ 0x00 ∷ 0x18 ∷ 0x00 ∷ 0x00 ∷ []) ∷ []
-  -- it ends with its group alone
+  -- it ends only with its group
   pub ends : (after 0 200 (0x03 ∷ 0x00 ∷ []) with_session).class_session ≡ None
   pub stays : (after 0 200 (0x03 ∷ 0x02 ∷ []) with_session).class_session ≡ with_session.class_session
   -- and stays where its group is set up anew
@@ -393,7 +393,7 @@ pub record HearingSteps : Type 0 where
   pub skipped_weight : (delivery 1010000 0 1
       (record { to = Group 0x11223344 0; port = 202; payload = 0x03 ∷ 0x07 ∷ 0x00 ∷ 0x00 ∷ [] }) with_session).answer
       ≡ OutboxFull 9
-  -- what comes by a group is of the class session's: it feeds the sessions whose mask has that one
+  -- what comes by a group comes by the class session's: it feeds the sessions whose mask has that one
   pub of_group_2 : dropped_by_2 0x14 ≡ 0
   pub of_no_other : dropped_by_2 0x1b ≡ 1
   pub answered : (from_group 1010000 0 (0x01 ∷ 0x03 ∷ []) (record with_session { sessions = set_up.sessions })).device.outbox
@@ -404,7 +404,7 @@ pub record HearingSteps : Type 0 where
       → is_open session (ClassB periodicity) device_ms addr
       ≡ is_open_b session.time periodicity session.timeout device_ms addr
   pub no_slot : (from_group 1026840 0 [] (record grouped { class_session = Some class_b })).answer ≡ Deaf
-  -- by unicast: class A after its own uplinks alone
+  -- by unicast: class A only after its own uplinks
   pub a_none : answer 6000 201 [] (first_device (worked_config A 0)) ≡ Deaf
   pub a_5999 : answer 5999 201 [] (record (first_device (worked_config A 0)) { last_due = Some 5000 }) ≡ Deaf
   pub a_6000 : answer 6000 201 [] (record (first_device (worked_config A 0)) { last_due = Some 5000 }) ≡ Done
@@ -530,7 +530,7 @@ pub record RadioSteps : Type 0 where
   pub opened : payload_to 0x11223344 (Ok (record { count = 65537; port = 201; payload = 7 ∷ 8 ∷ [] }))
       ≡ Ok (record { to = Group 0x11223344 65537; port = 201; payload = 7 ∷ 8 ∷ [] })
   pub closed : payload_to 0x11223344 (Err Header) ≡ Err Header
-  -- it counts as what was not heard
+  -- it counts as not heard
   pub counted : (radio 0 0 1 other_frame fresh).device ≡ with_counts after_deaf fresh
 
 -- ---- what a configuration may be
@@ -562,9 +562,9 @@ pub record WorkedSteps : Type 0 where
   pub uplinks : UplinkSteps
   -- each request of the four packages makes one uplink
   pub weights : WeightSteps
-  -- a clock that is mended, and what asks for it
+  -- a clock that is corrected, and what asks for it
   pub clock : ClockSteps
-  -- what a session tells that heard fragments
+  -- what a session that heard fragments answers
   pub statuses : StatusSteps
   -- sessions that are set up, heard, asked and deleted
   pub sessions : SessionSteps

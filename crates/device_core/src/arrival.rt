@@ -3,7 +3,7 @@
 use crate::moment::Moment;
 use frag_session::Via;
 
-/// How a payload comes to a device.
+/// How a payload came to a device.
 #[derive(Clone, Copy, Debug, PartialEq, Eq)]
 pub struct Arrival {
     pub moment: Moment,

@@ -1,4 +1,4 @@
-//! What a device is configured with.
+//! The configuration of a device.
 
 ghost use Rattle.std.specs.Prelude.{◌≡◌};
 ghost use Rattle.device_core.specs.Device.{is_config, has_ranges, limits_of, layout_of};
@@ -11,13 +11,13 @@ use thiserror::Error;
 /// When a device hears unicast payloads (LoRaWAN 1.0).
 #[derive(Clone, Copy, Debug, PartialEq, Eq)]
 pub enum Class {
-    /// In two windows after the uplink that it made last.
+    /// In two windows after the uplink made last.
     A,
     /// Always.
     C,
 }
 
-/// The most rows that are kept for the coded fragments of a session.
+/// The most rows for the coded fragments of a session.
 pub const MAX_ROWS: u16 = 256;
 
 /// The most bytes of the file area of a session.
@@ -26,23 +26,23 @@ pub const MAX_AREA: u32 = 262_382;
 /// The bytes of flash of a session before its records.
 const RECORDS_PLACE: u32 = 24_640;
 
-/// What a device is configured with. It has no text, so that its key comes into no log.
+/// The configuration of a device. It has no text, so that its key gets into no log.
 #[derive(Clone, Copy)]
 pub struct DeviceConfig {
     pub class: Class,
     /// Hardware version.
     pub hw: u32,
-    /// The image formats that it knows at first: 1 alone (1), or both (2).
+    /// The image formats that it knows at first: only 1 (1), or both (2).
     pub formats: u8,
-    /// Rows kept for the coded fragments of a session, 0 to 256.
+    /// Rows for the coded fragments of a session, 0 to 256.
     pub rows: u16,
     /// Seconds that its clock is ahead of true time, modulo 2^32.
     pub offset: u32,
-    /// GenAppKey, or AppKey where `root` is `V11`: which multicast keys are wrapped for.
+    /// GenAppKey, or AppKey where `root` is `V11`: multicast keys are wrapped under it.
     pub key: [u8; 16],
-    /// By which version of LoRaWAN the root key of multicast keys is made of `key`.
+    /// The version of LoRaWAN by which the root key of multicast keys is made from `key`.
     pub root: RootKind,
-    /// The one descriptor that its sessions take, if only one is.
+    /// The only descriptor that its sessions accept, where there is one.
     pub descriptor: Option<u32>,
     /// How many session indices there are, 1 to 4.
     pub sessions: u8,
@@ -52,8 +52,8 @@ pub struct DeviceConfig {
     pub area: u32,
     /// Whether its sessions are held in its flash, and so outlast a stop.
     pub held: bool,
-    /// Bytes of flash of a session that is held, 24,640 at least, and four times it within the flash; that of index i
-    /// lies from i * span.
+    /// Bytes of flash of a session that is held: at least 24,640, and four times it fits the flash. The session of index i has
+    /// those from i * span on.
     pub span: u32,
 }
 
@@ -68,7 +68,7 @@ pub enum ReserveError {
     Memory,
 }
 
-/// Whether each number of a configuration is within its bounds.
+/// Says whether each number of a configuration is within its bounds.
 pub fn is_config(config: &DeviceConfig) -> bool
     ensures { result ≡ is_config config.now }
 {
@@ -79,8 +79,8 @@ pub fn is_config(config: &DeviceConfig) -> bool
         && (1 <= config.area && config.area <= MAX_AREA)
 }
 
-/// Whether a flash of so many bytes has room for the sessions that are held: four ranges of the span, each long enough for
-/// a session. So it is where none is held.
+/// Says whether so many bytes of flash have room for the held sessions: four ranges of the span, each long enough. True where
+/// sessions are not held.
 pub fn has_ranges(config: &DeviceConfig, room: u32) -> bool
     ensures { result ≡ has_ranges config.now room }
 {
@@ -91,7 +91,7 @@ pub fn has_ranges(config: &DeviceConfig, room: u32) -> bool
     }
 }
 
-/// What the sessions of a device are limited to.
+/// The limits of a device's sessions.
 pub(crate) fn limits_of(config: &DeviceConfig) -> Limits
     ensures { result ≡ limits_of config.now }
 {
@@ -102,7 +102,7 @@ pub(crate) fn limits_of(config: &DeviceConfig) -> Limits
     }
 }
 
-/// How the sessions of a device lie in its flash.
+/// How the sessions of a device are laid out in its flash.
 pub(crate) fn layout_of(config: &DeviceConfig) -> Layout
     ensures { result ≡ layout_of config.now }
 {

@@ -1,17 +1,17 @@
-//! What became of a payload, of a frame or of waking.
+//! The answers to a payload, a frame and waking.
 
 use mc_frames::FrameFault;
 use thiserror::Error;
 use wire_base::Refusal;
 
-/// What became of a payload.
+/// What happened to a payload.
 #[derive(Clone, Copy, Debug, PartialEq, Eq)]
 pub enum Delivered {
     /// The device did not hear it.
     Deaf,
-    /// Reading it stops; nothing acted.
+    /// It is no message, with the place and the cause; nothing acted.
     Refused(Refusal),
-    /// The outbox could hold so many uplinks after it, more than 8; nothing acted.
+    /// Its answers could bring the outbox to so many uplinks, more than 8; nothing acted.
     OutboxFull(u16),
     /// Its commands acted in order.
     Done,
@@ -21,12 +21,12 @@ pub enum Delivered {
     Down,
 }
 
-/// What became of bytes that the radio heard.
+/// What happened to bytes that the radio heard.
 #[derive(Clone, Copy, Debug, PartialEq, Eq)]
 pub enum Aired {
-    /// They are no frame of the group that is heard: why.
+    /// They are no frame of the group that is heard, for this reason.
     Foreign(FrameFault),
-    /// They are one, and this became of its payload.
+    /// They are a frame of the group, and this happened to its payload.
     Heard(Delivered),
 }
 

@@ -1,4 +1,4 @@
-//! A device: the calls of whoever runs it, and the order of their checks.
+//! A device: its public calls, and the order of their checks.
 
 ghost use Rattle.std.specs.Prelude.{◌≡◌, ◌+◌, ◌<◌, ◌≤◌, true, false, length, Option, None, Some, Ok, Result, IfSome, option_map};
 ghost use Rattle.frag_session.specs.Session.{view_of};
@@ -39,13 +39,13 @@ use session_store::{FlashFault, SessionStore};
 use std::alloc::Global;
 use std::marker::Model;
 
-/// A device with its clock, groups, sessions and image slots. Contracts see what it holds, and say what each call makes of
-/// every record of `specs/Device` that it stands for.
+/// A device with its clock, groups, sessions and image slots. Contracts see what it holds, and say what each call does to every
+/// record of `specs/Device` that it stands for.
 #[derive(Drop)]
 pub struct Device<F: Flash + Drop> {
     config: DeviceConfig,
     clock: DeviceClock,
-    /// When the uplink that it made last is due, in ms of true time.
+    /// When the uplink made last is due, in ms of true time.
     last_due: Option<u64>,
     groups: GroupTable,
     class_session: Option<ClassSession>,
@@ -90,9 +90,10 @@ impl<F: Flash + Drop> Device<F> {
     ghost use Rattle.device_core.specs.HeldDevice.{DeviceStands, Becomes, Makes, GoesAside, IsReserved, TakesOldest, device_of, held_with_answers};
     ghost use Rattle.device_core.specs.Sendable.{IsSendable, IsUplink};
 
-    /// A device at its start, with all memory that it will ever need. BadConfig comes exactly where a number of the
-    /// configuration is out of its bounds, or its sessions are to be held and the flash has no room for them. No flash is
-    /// called; a device whose sessions are held is down until `power`. At an error the flash is dropped.
+    /// Makes a device at its start, with all memory that it ever needs. `BadConfig` comes exactly where a number of the
+    /// configuration is out of its bounds, or its sessions are to be held and the flash has no room for them; `Memory` where
+    /// memory is missing. No flash is called; a device whose sessions are held is down until `power`. At an error the flash is
+    /// dropped.
     pub fn reserve(alloc: Global, config: DeviceConfig, flash: F) -> Result<Self, ReserveError>
         ensures { IsReserved config (F.seen flash).room flash result }
     {
@@ -103,7 +104,7 @@ impl<F: Flash + Drop> Device<F> {
         let Ok(slots) = Slots::reserve(alloc, config.area, config.hw, config.formats) else {
             return Err(ReserveError::Memory);
         };
-        // last, so that no error has to give sessions back
+        // this comes last, so that no error has to return sessions
         let Ok(sessions) = SessionStore::reserve(alloc, flash, layout, config.held) else {
             return Err(ReserveError::Memory);
         };
@@ -126,11 +127,11 @@ impl<F: Flash + Drop> Device<F> {
         })
     }
 
-    /// A payload comes at `t` ms of true time, at most 4,294,967,295,999 (the last ms of second 2^32 - 1). If it is
-    /// heard, can be read and the outbox has room, its commands act in order. `word` is a random word, and `mark` the
-    /// number at which a verdict on a file is reported. A reboot that is due is carried out before and after all this.
-    /// While its sessions are down the answer is Down. FlashFault comes only where the flash failed: the commands
-    /// before acted, no other did, no reboot is carried out after, and the sessions are down.
+    /// Takes a payload at `t` ms of true time, at most 4,294,967,295,999 (the last ms of second 2^32 - 1). If it is heard, can be
+    /// read and the outbox has room, its commands act in order. `word` is a random word, and `mark` the number that a verdict on
+    /// a file reports. A reboot that is due is carried out before and after all this. While its sessions are down the answer is
+    /// `Down`. `FlashFault` comes only where the flash failed: the commands before it acted, no other did, no reboot is carried
+    /// out after them, and the sessions are down. It takes no memory.
     pub fn deliver(&mut self, t: u64, down: &Downlink, word: u32, mark: u64) -> Delivered
         requires { t ≤ max_moment }
         ensures { Delivers F.seen self.old self.new result
@@ -139,7 +140,7 @@ impl<F: Flash + Drop> Device<F> {
         self.receive(t, &DownlinkRef::of(down), word, mark)
     }
 
-    /// As `deliver`, of a payload whose bytes are borrowed.
+    /// Takes a payload, as `deliver` does; its bytes are borrowed.
     pub fn receive(&mut self, t: u64, down: &DownlinkRef<'_>, word: u32, mark: u64) -> Delivered
         requires { t ≤ max_moment }
         ensures { Delivers F.seen self.old self.new result
@@ -158,11 +159,11 @@ impl<F: Flash + Drop> Device<F> {
         }
     }
 
-    /// Bytes that the radio heard come at `t` ms of true time, at most 4,294,967,295,999. Where they are a frame of the
-    /// class session's group, with a count from its minMcFCount to below its maxMcFCount, and one of the 65,536 from
-    /// minMcFCount on, their payload comes to that group as in `deliver`. Other bytes are foreign: they change nothing
-    /// but a reboot that is due and the deaf counter.
-    /// While its sessions are down the answer is Heard(Down), whatever they are.
+    /// Takes bytes that the radio heard at `t` ms of true time, at most 4,294,967,295,999. Where they are a frame of the class
+    /// session's group, with a count from its minMcFCount to below its maxMcFCount, and one of the 65,536 from minMcFCount on,
+    /// their payload comes to that group as in `deliver`. Other bytes are `Foreign`: they change only the deaf counter, and a
+    /// reboot that is due is carried out. While its sessions are down the answer is Heard(Down), whatever the bytes are. It takes
+    /// no memory.
     #[tactic(auto, unfolding(crate::specs::Radio::radio))]
     pub fn radio(&mut self, t: u64, bytes: &[u8], word: u32, mark: u64) -> Aired
         requires { t ≤ max_moment }
@@ -181,13 +182,13 @@ impl<F: Flash + Drop> Device<F> {
         }
     }
 
-    /// The device wakes at `t` ms of true time, at most 4,294,967,295,999: it asks for the time, and OutboxFull comes
+    /// Wakes the device at `t` ms of true time, at most 4,294,967,295,999: it asks for the time (AppTimeReq). `OutboxFull` comes
     /// exactly where 8 uplinks are held. A reboot that is due is carried out before and after.
     #[tactic(auto, unfolding(crate::specs::Deliver::waking))]
     pub fn wake(&mut self, t: u64) -> Result<(), OutboxFull>
         requires { t ≤ max_moment }
         ensures makes { Makes (Result (Unit {0}) OutboxFull) self.old self.new result (waking t) }
-        // So it does while its sessions are down, and they are untouched.
+        // It does so while its sessions are down too, and leaves them untouched.
         ensures aside { GoesAside self.old self.new (λ device. (waking t device).device) }
         ensures answer { (table : SessionTable)
             → result ≡ (waking t (device_of self.old table)).answer }
@@ -198,7 +199,7 @@ impl<F: Flash + Drop> Device<F> {
         asked
     }
 
-    /// Whether an uplink is held.
+    /// Says whether an uplink is held.
     pub fn has_uplink(&self) -> bool
         ensures some { result ≡ true → 0 < length self.now.outbox }
         ensures none { result ≡ false → self.now.outbox ≡ [] }
@@ -206,7 +207,7 @@ impl<F: Flash + Drop> Device<F> {
         !self.outbox.is_empty()
     }
 
-    /// The oldest uplink that is held; None exactly where none is. Its payload is one command in its canonical spelling.
+    /// Takes the oldest uplink; None exactly where none is held. Its payload is one command in its canonical spelling.
     pub fn take_uplink(&mut self) -> Option<Uplink>
         ensures makes { Makes (Option Uplink) self.old self.new result taking }
         ensures aside { GoesAside self.old self.new (λ device. (taking device).device) }
@@ -216,7 +217,8 @@ impl<F: Flash + Drop> Device<F> {
         self.outbox.take()
     }
 
-    /// As `take_uplink`, of a device that holds one (`has_uplink`), written into an uplink of the caller's that has no bytes.
+    /// Takes the oldest uplink, as `take_uplink` does, and writes it into the caller's uplink, which has no bytes; one must be
+    /// held.
     pub fn take_uplink_into(&mut self, uplink: &mut Uplink)
         requires held { 0 < length self.old.outbox }
         requires empty { uplink.old.payload ≡ [] }
@@ -228,7 +230,7 @@ impl<F: Flash + Drop> Device<F> {
         self.outbox.take_into(uplink);
     }
 
-    /// Lets go of all uplinks that are held.
+    /// Drops all uplinks that are held.
     pub fn drop_uplinks(&mut self)
         ensures becomes { Becomes self.old self.new (λ device. record device { outbox = [] }) }
         ensures aside { GoesAside self.old self.new (λ device. record device { outbox = [] }) }
@@ -236,7 +238,7 @@ impl<F: Flash + Drop> Device<F> {
         self.outbox.clear();
     }
 
-    /// Both image formats are known from now on, and what was received to run next is read again. No reboot is carried out.
+    /// Makes both image formats known from now on, and reads what was received to run next again. No reboot is carried out.
     #[tactic(auto, unfolding(crate::specs::Firmware::after_migration))]
     pub fn raise(&mut self)
         ensures becomes { Becomes self.old self.new after_migration }
@@ -245,9 +247,9 @@ impl<F: Flash + Drop> Device<F> {
         self.slots.raise();
     }
 
-    /// Opens the sessions that are held in its flash, and offers to next each file that is whole now and was not when the
-    /// device was last up, by rising index. At an error they are down. Flash comes only where the flash failed, and Foreign names
-    /// the lowest foreign place of the first session's range that has one, counted from the range's first byte.
+    /// Opens the sessions that are held in its flash, and offers to next, by rising index, each file that is whole now and was
+    /// not when the device was last up. At an error the sessions are down. `Flash` comes only where the flash failed; `Foreign`
+    /// names the lowest foreign place of the first session's range that has one, counted from the range's first byte.
     pub fn power(&mut self) -> Result<(), OpenFault>
         requires { self.old.sessions.held ≡ true }
         ensures { Powers F.seen self.old self.new result }
@@ -264,7 +266,7 @@ impl<F: Flash + Drop> Device<F> {
         }
     }
 
-    /// Whether its sessions are held in its flash.
+    /// Says whether its sessions are held in its flash.
     pub fn is_held(&self) -> bool
         ensures held { result ≡ self.now.sessions.held }
         ensures in_flash { result ≡ true → IsInFlash self.now.sessions.state }
@@ -273,7 +275,7 @@ impl<F: Flash + Drop> Device<F> {
         self.sessions.is_held()
     }
 
-    /// Whether its sessions are down until `power`.
+    /// Says whether its sessions are down until `power`.
     pub fn is_down(&self) -> bool
         ensures down { result ≡ true → IsDown self.now.sessions.state }
         ensures up { result ≡ false → IsUp self.now.sessions.state }
@@ -281,14 +283,14 @@ impl<F: Flash + Drop> Device<F> {
         self.sessions.is_down()
     }
 
-    /// The flash that it was made with.
+    /// Returns the flash, to look at.
     pub fn flash(&self) -> &F
         ensures { result.now ≡ self.now.sessions.flash }
     {
         self.sessions.flash()
     }
 
-    /// Gives the flash back.
+    /// Returns the flash.
     pub fn close(self) -> F
         ensures { result ≡ self.sessions.flash }
     {
@@ -307,7 +309,7 @@ impl<F: Flash + Drop> Device<F> {
         sessions.close()
     }
 
-    /// What the session of an index, 0 to 3, shows; None exactly where there is none, or its sessions are down.
+    /// Returns what the session of an index, 0 to 3, shows; None exactly where there is none, or its sessions are down.
     pub fn session(&self, index: u8) -> Option<View<'_>>
         requires { index < 4 }
         ensures shows { (device : DeviceState) → DeviceStands self.now device
@@ -317,14 +319,14 @@ impl<F: Flash + Drop> Device<F> {
         self.sessions.view(index)
     }
 
-    /// What it runs, and what was received to run next.
+    /// Returns what it runs, and what was received to run next.
     pub fn slots(&self) -> &Slots
         ensures { result.now.slots ≡ self.now.slots }
     {
         &self.slots
     }
 
-    /// The seconds that its clock is ahead of true time, modulo 2^32, and the token of its next AppTimeReq.
+    /// Returns the seconds that its clock is ahead of true time, modulo 2^32, and the token of its next AppTimeReq.
     pub fn clock(&self) -> (u32, u8)
         ensures offset { result.0 ≡ self.now.clock.offset }
         ensures token { result.1 ≡ self.now.clock.token }
@@ -332,7 +334,7 @@ impl<F: Flash + Drop> Device<F> {
         (self.clock.offset(), self.clock.token())
     }
 
-    /// Its counters.
+    /// Returns its counters.
     pub fn counts(&self) -> Counts
         ensures { result ≡ self.now.counts }
     {

@@ -1,4 +1,4 @@
-//! What holds of the definitions alone.
+//! Laws about the definitions, each the contract of a function with an empty body.
 
 ghost use Rattle.std.specs.Prelude.{◌≡◌, ◌+◌, ◌^◌, ◌<◌, ◌≤◌, ◌↔◌, ℕ, List, length, Some, IsErr};
 ghost use Rattle.wire_base.specs.Payload.{max_payload};
@@ -28,7 +28,7 @@ pub fn due_reboot_is_once()
         → after_due_reboot t (after_due_reboot t device) ≡ after_due_reboot t device }
 {}
 
-/// A payload that does not act, and bytes that are foreign, change nothing but a reboot that is due, and one counter.
+/// A payload that does not act, and bytes that are foreign, change only one counter, and a reboot that is due is carried out.
 pub fn what_does_not_act_is_counted()
     ensures deaf { (t word mark : ℕ) (down : Downlink) (device : DeviceState)
         → let made = delivery t word mark down device in
@@ -44,8 +44,8 @@ pub fn what_does_not_act_is_counted()
         → made.device ≡ with_counts after_deaf (after_due_reboot t device) }
 {}
 
-/// What is framed for the group that a device hears comes to it as the payload itself comes, where the count is from
-/// minMcFCount to below maxMcFCount, and one of the 65,536 from minMcFCount on.
+/// A frame for the group that a device hears does what its payload does, where its count is from minMcFCount to below
+/// maxMcFCount, and one of the 65,536 from minMcFCount on.
 #[tactic(auto, using(crate::proofs::Radio::frame_delivered))]
 pub fn a_frame_is_delivered()
     ensures { (t word mark count port : ℕ) (payload : List ℕ) (group : Group) (device : DeviceState)
@@ -58,7 +58,7 @@ pub fn a_frame_is_delivered()
         ≡ aired (delivery t word mark down device) }
 {}
 
-/// Waking is refused exactly where 8 uplinks are held, and then changes nothing but a reboot that is due.
+/// Waking is refused exactly where 8 uplinks are held; then only a reboot that is due changes the device.
 pub fn a_full_device_wakes_for_its_reboot_alone()
     ensures exact { (t : ℕ) (device : DeviceState)
         → IsErr (waking t device).answer ↔ (outbox_size ≤ length device.outbox) }
@@ -78,20 +78,20 @@ pub fn two_commands_act_by_multicast()
     ensures { MulticastActs }
 {}
 
-/// Whatever calls and payloads come, a device runs nothing, which is version 0, or an image file for its hardware, of a
-/// format that it knows, with that image's version.
+/// Whatever calls and payloads come, a device runs nothing, which is version 0, or an image file for its hardware, of a format
+/// that it knows, with that image's version.
 #[tactic(auto, using(crate::proofs::Running::runs_images))]
 pub fn runs_images_alone()
     ensures { RunsImagesAlone }
 {}
 
-/// Power at a device that was up, and found its own sessions, changes nothing.
+/// Power changes nothing at a device that was up and found its own sessions.
 #[tactic(auto, using(crate::proofs::Quiet::power_is_quiet))]
 pub fn power_is_quiet()
     ensures { PowerIsQuiet }
 {}
 
-/// What is saved says one record, its sessions aside: a device that is restored of it, and finds its sessions in its flash,
+/// Saved bytes say one record, except for its sessions: a device that is restored from them, and finds its sessions in its flash,
 /// stands for the record that was saved, and no file is offered again.
 #[tactic(auto, using(crate::proofs::Restarts::lasts))]
 pub fn a_device_lasts_through_a_restart()

@@ -1,12 +1,10 @@
-//! A device end of firmware update over LoRaWAN: clock synchronization (TS003-1.0.0), fragmented data blocks (TS004-1.0.0),
-//! remote multicast setup (TS005-1.0.0) and firmware management (TS006-1.0.0).
-//! A device is seen as the record of `specs/Device.antt`, with the lists of all fragments that its sessions heard: each
-//! call leaves what one function of `specs/Deliver.antt`, `Radio`, `Power` or `Firmware` makes of that record, and
-//! answers what that function answers.
-//! Only `Device::reserve` and `Device::restore` take memory. Radio, clocks, random numbers, the flash and what runs the image
-//! are left to the caller.
-//! Its sessions are in memory alone, or held in the flash, and then outlast a stop: `power` opens them again. All else that
-//! it knows outlasts its end where it is saved as bytes (`specs/Saving.antt`), and it is restored of them and its files.
+//! A device's end of firmware update over LoRaWAN: clock synchronization (TS003-1.0.0), fragmented data blocks (TS004-1.0.0),
+//! remote multicast setup (TS005-1.0.0) and firmware management (TS006-1.0.0). Contracts see a device as the record of
+//! `specs/Device.antt`, with the lists of all fragments that its sessions heard. Each call changes that record as one function of
+//! `specs/Deliver.antt`, `Radio`, `Power` or `Firmware` says, and answers what that function answers. Only `Device::reserve` and
+//! `Device::restore` take memory. Radio, clocks, random numbers, the flash and starting the image are left to the caller. A
+//! device's sessions are only in memory, or held in the flash; then they outlast a stop, and `power` opens them again. All else
+//! that it knows can be saved as bytes (`specs/Saving.antt`), and a device is restored from these and its files.
 //!
 //!     let mut device = Device::reserve(alloc, config, flash)?; // all memory
 //!     device.power()?;                                         // where its sessions are held: they are up

@@ -1,4 +1,4 @@
-//! The uplinks that are not yet taken.
+//! The uplinks that are not taken yet.
 
 ghost use Rattle.std.specs.Prelude.{◌≡◌, ◌+◌, ◌*◌, ◌<◌, ◌≤◌, ◌++◌, ◌∷◌, [], length, IfSome, IfNone, Some, true, false};
 ghost use Rattle.std.specs.List.{flat_map, AllByRecursion};
@@ -20,7 +20,7 @@ use wire_base::Payload;
 /// How many uplinks a device holds before they are taken.
 pub const OUTBOX: usize = 8;
 
-/// At most 8 uplinks, oldest first, which lie in the value itself. Contracts see their list.
+/// At most 8 uplinks, oldest first, held in the value itself. Contracts see their list.
 #[derive(Drop)]
 pub struct Outbox {
     uplinks: ArrayVec<QueuedUplink, OUTBOX>,
@@ -39,7 +39,7 @@ impl Model for Outbox {
 }
 
 impl Outbox {
-    /// Holds none.
+    /// Makes an outbox without uplinks.
     pub fn new() -> Self
         ensures { result ≡ [] }
     {
@@ -48,6 +48,7 @@ impl Outbox {
         }
     }
 
+    /// Returns how many uplinks there are.
     pub fn len(&self) -> usize
         ensures number { result ≡ length self.now }
         ensures few { length self.now ≤ outbox_size }
@@ -55,7 +56,7 @@ impl Outbox {
         self.uplinks.len()
     }
 
-    /// Whether there is none.
+    /// Says whether there is none.
     pub fn is_empty(&self) -> bool
         ensures none { result ≡ true → self.now ≡ [] }
         ensures some { result ≡ false → 0 < length self.now }
@@ -72,14 +73,14 @@ impl Outbox {
         self.uplinks.push(QueuedUplink::of(answer));
     }
 
-    /// Lets go of all.
+    /// Drops all.
     pub fn clear(&mut self)
         ensures { self.new ≡ [] }
     {
         self.uplinks.clear();
     }
 
-    /// Those of a saved device's bytes; None exactly where one of them is no uplink.
+    /// Reads the uplinks of a saved device's bytes; None exactly where one of them is no uplink.
     pub fn read(saved: &[u8]) -> Option<Self>
         requires { 460 ≤ length saved.now }
         ensures uplinks { IfSome result (λ outbox. outbox ≡ uplinks_in saved.now) }
@@ -93,7 +94,7 @@ impl Outbox {
         Some(Outbox { uplinks })
     }
 
-    /// Puts them as they are saved: their number, and 32 bytes for each of 8.
+    /// Puts the uplinks as they are saved: their number, and 32 bytes for each of 8.
     pub fn put(&self, to: &mut SavedDevice)
         requires { length to.old.items ≤ 203 }
         ensures bytes { to.new.items ≡ to.old.items ++ uplinks_bytes self.now }
@@ -104,7 +105,7 @@ impl Outbox {
         put_zeros(to, 256 - 32 * self.uplinks.len());
     }
 
-    /// Takes the oldest; None exactly where there is none.
+    /// Takes the oldest uplink; None exactly where there is none.
     pub fn take(&mut self) -> Option<Uplink>
         ensures takes { TakesOldest self.old self.new result }
         ensures uplink { IfSome result (λ u. IsUplink u) }
@@ -121,7 +122,7 @@ impl Outbox {
         Some(uplink)
     }
 
-    /// As `take`, of one that is there, written into an uplink without bytes.
+    /// Takes the oldest uplink, which must be there, into an uplink without bytes.
     pub fn take_into(&mut self, uplink: &mut Uplink)
         requires some { 0 < length self.old }
         requires empty { uplink.old.payload ≡ [] }

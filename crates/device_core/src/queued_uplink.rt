@@ -31,7 +31,7 @@ impl Model for QueuedUplink {
     ghost view = { λ h. record { due = h.due; port = h.port; payload = h.bytes.items } };
 }
 
-/// A place in which none waits.
+/// A place without an uplink.
 impl Default for QueuedUplink {
     fn default() -> Self {
         QueuedUplink {
@@ -43,13 +43,13 @@ impl Default for QueuedUplink {
 }
 
 impl QueuedUplink {
-    /// An answer, spelled.
+    /// Spells an answer.
     #[tactic(auto, using(crate::proofs::Lengths::short))]
     pub fn of(answer: Answer<'_>) -> Self
         requires { IsSendable answer.port answer.command }
         ensures { result ≡ uplink_of answer.entry }
     {
-        // (where it lies, so that no payload is moved)
+        // (written in place, so that no payload is moved)
         let mut payload = Payload::new();
         spell(answer.port, Direction::Up, &answer.command, &mut payload);
         let mut bytes = ArrayVec::new();
@@ -61,7 +61,7 @@ impl QueuedUplink {
         }
     }
 
-    /// That of a saved device: None exactly where its payload is no command that a device sends on that port.
+    /// Reads an uplink of a saved device; None exactly where its payload is no command that a device sends on that port.
     pub fn read(due: u64, port: u8, payload: &[u8]) -> Option<Self>
         ensures uplink { IfSome result
             (λ u. u ≡ record { due = due; port = port; payload = payload.now }) }
@@ -94,7 +94,7 @@ impl QueuedUplink {
         put_zeros(to, LONGEST - length);
     }
 
-    /// Written into an uplink without bytes.
+    /// Writes it into an uplink without bytes.
     pub fn write(&self, uplink: &mut Uplink)
         requires { uplink.old.payload ≡ [] }
         ensures { uplink.new ≡ self.now }

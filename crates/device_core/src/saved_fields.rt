@@ -1,4 +1,4 @@
-//! What bytes say of a device, those of a saved one or any others.
+//! The fields of a saved device, read from any bytes.
 
 ghost use Rattle.std.specs.Prelude.{◌≡◌, ◌+◌, ◌<◌, ◌≤◌, length, slice_range};
 ghost use Rattle.wire_base.specs.Numbers.{number_at};
@@ -13,7 +13,7 @@ use mc_keys::Key;
 use session_store::CompleteFlags;
 use wire_base::u32_at;
 
-/// Where saved bytes say whether there is a next.
+/// The place where saved bytes say whether there is a next.
 pub(crate) const NEXT: usize = 186;
 
 pub(crate) fn clock_in(saved: &[u8]) -> DeviceClock
@@ -133,7 +133,7 @@ pub(crate) fn flags_in(saved: &[u8]) -> CompleteFlags
     }
 }
 
-/// Has slots without a next know the formats that a byte says.
+/// Makes slots without a next know the formats that a byte says.
 #[tactic(auto, using(crate::proofs::SavedSlots::raised))]
 fn take_formats(slots: &mut Slots, byte: u8)
     requires { slots.old.slots.next ≡ ImageState.None }

@@ -21,7 +21,7 @@ use thiserror::Error;
 /// The bytes of a saved device.
 pub const MAX_SAVED_DEVICE: usize = 492;
 
-/// What a device knows, as bytes. They lie in the value itself. They hold the keys of its groups.
+/// What a device knows, as bytes held in the value itself. They hold the keys of its groups.
 pub type SavedDevice = ArrayVec<u8, MAX_SAVED_DEVICE>;
 
 /// The most bytes of a configuration.
@@ -43,7 +43,7 @@ pub enum RestoreError {
     Corrupt,
 }
 
-/// Why there is no device, as why none was restored.
+/// The same error, as that of `restore`.
 pub(crate) fn restore_error(error: ReserveError) -> RestoreError
     ensures { result ≡ restore_error error }
 {

@@ -1,9 +1,9 @@
-//! Answers of a device, as commands and as payloads.
+//! The answers of a device, as commands and as payloads.
 
 use package_grammar::Command;
 use wire_base::Payload;
 
-/// An answer of a device, before it is written: it makes a payload of its own.
+/// An answer of a device, before its payload is written.
 #[derive(Debug, Drop)]
 pub struct Answer<'a> {
     /// The moment at which it is due, in ms of true time.

@@ -1,4 +1,4 @@
-//! What several tests take: an image file, and a device whose sessions are in memory alone.
+//! What several tests take: an image file, and a device whose sessions are only in memory.
 
 use device_core::{Class, DeviceConfig, MAX_AREA};
 use flash_session::CellFlash;
@@ -32,7 +32,7 @@ pub const CONFIG: DeviceConfig = DeviceConfig {
     span: 0,
 };
 
-/// A device whose sessions are in memory alone needs no flash.
+/// A device whose sessions are only in memory needs no flash.
 pub fn no_flash(rt: &impl Abort, alloc: Global) -> CellFlash {
     match CellFlash::reserve(alloc, 0) {
         Ok(flash) => flash,

@@ -12,7 +12,7 @@ use std::process::Abort;
 use std::test::*;
 use wire_base::{Payload, Refusal, Why};
 
-/// A payload by unicast on a port that is acted on, and the payload of the uplink that it makes; none where that is empty.
+/// A payload by unicast on a port that is acted on, and the payload of its uplink; none where that is empty.
 type Exchange = (u8, &'static [u8], &'static [u8]);
 
 /// PackageVersionReq is answered on the port that it came on.
@@ -23,7 +23,7 @@ static PACKAGES: [Exchange; 4] = [
     (203, &[0x00], &[0x00, 4, 1]),
 ];
 
-/// Sessions are set up, hear, tell of themselves and end, each by its own index.
+/// Sessions are set up, hear, answer their status and end, each by its own index.
 static FRAGMENTS: [Exchange; 20] = [
     (201, &[0x01, 0x01], &[]),
     (201, &[0x03, 0x00], &[0x03, 0x04]),
@@ -83,7 +83,7 @@ static FRAGMENTS: [Exchange; 20] = [
     ),
 ];
 
-/// Groups 0 and 2 are set up, told and ended; then a session of class C on none, and one on group 2.
+/// Groups 0 and 2 are set up, listed and ended; then a session of class C on none, and one on group 2.
 static GROUPS: [Exchange; 7] = [
     (
         200,
@@ -132,7 +132,7 @@ static SETUP: [Exchange; 2] = [
     ),
 ];
 
-/// A received image is told, deleted by its version alone, and runs after a reboot; all ones cancel one.
+/// A received image is shown, deleted only by its version, and runs after a reboot; all ones cancel one.
 static FIRMWARE: [Exchange; 8] = [
     (203, &[0x04], &[0x04, 0x03, 2, 0, 0, 0]),
     (203, &[0x05, 3, 0, 0, 0], &[0x05, 0x02]),
@@ -256,7 +256,7 @@ const FRAME_1_1: [u8; 68] = [
     0xd2, 0xd9, 0xf2, 0xf1,
 ];
 
-/// Bytes that the radio hears where no group is heard, and what becomes of them: none is a frame for the device.
+/// Bytes that the radio hears where no group is heard, and the answer: none is a frame for the device.
 static STRANGE: [(&[u8], FrameFault); 4] = [
     (&[0x60; 12], FrameFault::Short),
     (&[0x60; 256], FrameFault::Long),
@@ -264,7 +264,7 @@ static STRANGE: [(&[u8], FrameFault); 4] = [
     (&FRAME, FrameFault::Address),
 ];
 
-/// Bytes that the radio hears at a moment in ms, with the session of `WINDOWS`, and what becomes of them.
+/// Bytes that the radio hears at a moment in ms, with the session of `WINDOWS`, and the answer.
 static AIRED: [(u64, &[u8], Aired); 11] = [
     (1_000_000, &FRAME_1_1, Aired::Foreign(FrameFault::Mic)),
     (1_000_000, &[0; 12], Aired::Foreign(FrameFault::Short)),
@@ -315,7 +315,7 @@ static AIRED: [(u64, &[u8], Aired); 11] = [
     (1_001_000, &FRAME, Aired::Heard(Delivered::Deaf)),
 ];
 
-/// An image is deleted by its version alone, and once; all ones cancel a reboot.
+/// An image is deleted only by its version, and once; all ones cancel a reboot.
 static DELETIONS: [Exchange; 5] = [
     (203, &[0x05, 3, 0, 0, 0], &[0x05, 0x02]),
     (203, &[0x05, 2, 0, 0, 0], &[0x05, 0x00]),
@@ -367,7 +367,7 @@ fn reserved(rt: &impl Abort, alloc: Global, config: DeviceConfig) -> Device<Cell
     }
 }
 
-/// What becomes of a payload at a moment.
+/// The answer to a payload at a moment.
 fn delivered(
     rt: &impl Abort,
     device: &mut Device<CellFlash>,
@@ -390,7 +390,7 @@ fn acts(rt: &impl Abort, device: &mut Device<CellFlash>, t: u64, port: u8, bytes
     delivered(rt, device, t, To::Unicast, port, bytes) == Delivered::Done
 }
 
-/// What becomes of bytes that the radio hears.
+/// The answer to bytes that the radio hears.
 fn aired(rt: &impl Abort, device: &mut Device<CellFlash>, t: u64, bytes: &[u8]) -> Aired {
     assert!(rt; t <= 4_294_967_295_999);
     device.radio(t, bytes, 0, 1)
@@ -620,7 +620,7 @@ fn hears(rt: &impl Abort, device: &mut Device<CellFlash>, t: u64) -> bool {
     }
 }
 
-/// Moments in ms, and whether a device of class A hears then, whose uplink was due at 5,000 ms.
+/// Moments in ms, and whether a device of class A hears then; its uplink was due at 5,000 ms.
 static HEARD_BY_A: [(u64, bool); 5] = [
     (5999, false),
     (6000, true),
@@ -645,7 +645,7 @@ fn class_a_hears_behind_its_uplink(rt: HostRuntime) {
     drop(device);
 }
 
-/// A session of a piece of a byte, that group 2 fills alone.
+/// A session of a piece of a byte, which only group 2 feeds.
 static OF_GROUP_2: [Exchange; 1] = [(
     201,
     &[0x02, 0x04, 1, 0, 1, 0x00, 0, 0, 0, 0, 0],
@@ -693,7 +693,7 @@ fn a_group_is_heard_while_its_session_runs(rt: HostRuntime) {
     drop(device);
 }
 
-/// This becomes of a payload to the group of `WINDOWS`, which makes no uplink.
+/// This is the answer to a payload to the group of `WINDOWS`, which makes no uplink.
 fn becomes(
     rt: &impl Abort,
     device: &mut Device<CellFlash>,
@@ -718,7 +718,7 @@ fn a_file_comes_by_the_group_in_its_window(rt: HostRuntime) {
     let mut device = reserved(&rt, rt.alloc(), CONFIG);
     exchanges(&rt, &mut device, 1_000_000, &WINDOWS);
     let whole = fragment();
-    // only fragments and status requests act, and what is skipped has its weight all the same
+    // only fragments and status requests act, but a skipped command has its weight too
     becomes(&rt, &mut device, 999_999, 201, &whole, Delivered::Deaf);
     becomes(
         &rt,
@@ -825,7 +825,7 @@ fn is_made(
     }
 }
 
-/// Formats, rows, sessions, groups and bytes, of which one is out of bounds.
+/// Formats, rows, sessions, groups and bytes; one of them is out of bounds.
 static OUT_OF_BOUNDS: [(u8, u16, u8, u8, u32); 9] = [
     (0, 0, 4, 4, MAX_AREA),
     (3, 0, 4, 4, MAX_AREA),
@@ -896,8 +896,8 @@ fn is_cut(rt: &impl Abort, device: &mut Device<CellFlash>, port: u8, command: &[
     refused
 }
 
-/// A command that is cut after any of its bytes is refused there, also after a whole command, and the device counts it and
-/// stays as it was: no uplink, no session, the same clock and slots.
+/// A command that is cut after any of its bytes is refused there, also after a whole command. The device counts it and stays as
+/// it was: no uplink, no session, the same clock and slots.
 #[test]
 fn cut_commands_change_nothing(rt: HostRuntime) {
     let mut device = reserved(&rt, rt.alloc(), AHEAD);

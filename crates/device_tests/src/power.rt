@@ -1,4 +1,4 @@
-//! A small update of a device whose sessions lie in flash, stopped at each call of the flash.
+//! A small update of a device whose sessions are in flash, stopped at each call of the flash.
 
 ghost use Rattle.std.specs.Prelude.{◌≤◌};
 
@@ -78,7 +78,7 @@ fn device(rt: &impl Abort, alloc: Global, flash: MemFlash, calls: u64) -> Device
     }
 }
 
-/// The same over the flash of a device that is no more.
+/// The same over the flash of a device that has ended.
 fn over(rt: &impl Abort, alloc: Global, first: Device<StopFlash>) -> Device<StopFlash> {
     device(rt, alloc, first.close().inner(), ALL)
 }

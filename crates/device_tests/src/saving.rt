@@ -74,7 +74,7 @@ fn acts(rt: &impl Abort, device: &mut Device<CellFlash>, port: u8, bytes: &[u8])
     device.deliver(0, &down, 20, 1) == Delivered::Done
 }
 
-/// Why no device of a configuration is restored of these bytes.
+/// Why no device of a configuration is restored from these bytes.
 fn fault(
     rt: &impl Abort,
     alloc: Global,

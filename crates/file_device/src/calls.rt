@@ -9,7 +9,7 @@ use package_grammar::{Downlink, To};
 use script_lines::{Form, HexBytes, MAX_TIME};
 use wire_base::{MAX_PAYLOAD, Payload};
 
-/// Makes the call of a line at a time, and says what became of it; None where it is none that a device takes.
+/// Makes the call of a line, and says how it ended; None where it is no line for a device.
 pub fn call(device: &mut Device<FileFlash>, time: u64, form: &Form) -> Option<&'static str> {
     if time > MAX_TIME {
         return None;

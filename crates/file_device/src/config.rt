@@ -1,4 +1,4 @@
-//! What a device is configured with, as the line of a script says.
+//! The configuration of a device, from the line of a script.
 
 ghost use Rattle.std.specs.Prelude.{◌≡◌, true, IfSome};
 
@@ -6,10 +6,11 @@ use device_core::{Class, DeviceConfig, MAX_AREA};
 use mc_keys::RootKind;
 use script_lines::{Form, form, in_range};
 
-/// Bytes of the file for each of the four sessions, as a device of a script has them.
+/// The bytes of the file for each of the four sessions, as a device of a script has them.
 pub const SPAN: u32 = 631_573;
 
-/// The configuration that a device line tells; None where it is none. Its sessions are held in its flash.
+/// Returns the configuration that a device line has; None where it is no device line. The sessions are held in the device's
+/// flash.
 pub fn config_of(line: &[u8]) -> Option<DeviceConfig>
     ensures { IfSome result (λ config. config.held ≡ true) }
 {

@@ -1,9 +1,9 @@
-//! A device that is a process: its sessions lie in a file, and all else that it knows in another, so that it outlasts the
-//! process's end at any moment.
+//! A device that is a process: its sessions are in one file, and all else that it knows is in another, so that it outlasts the
+//! process, whenever that ends.
 //!
 //!     file_device FLASH STATE 'device 1 c 1 16 0 KEY'
 //!
-//! The third word is a device line of a script. Each line that comes is one of a script too, and is answered by the device's
+//! The third word is a device line of a script. Each line of input is a line of a script too. The answer has the device's
 //! uplinks, a line each as `DUE PORT HEX`, and a word:
 //!
 //! - `at MS`: the time from there on; `done`.
@@ -11,9 +11,9 @@
 //!   `full`, `fault` or `down`, and `foreign` for bytes that are no frame for it.
 //! - `wake 1`: `done` or `full`. `migrate 1`: `done`.
 //!
-//! The line `show` is answered with what the device shows, up to the word `done`. At the start the device gets power, and says
-//! `power`. What it knows is saved after each call before its uplinks go out, and after them. Any other line ends the process,
-//! and so does a system's call that fails.
+//! The answer to the line `show` is what the device shows, up to the word `done`. At the start the device gets power, and says
+//! `power`. After each call what it knows is saved, before its uplinks are sent, and once more after them. Any other line ends
+//! the process, and so does a system's call that fails.
 #![tactic(auto)]
 
 mod calls;
@@ -41,7 +41,7 @@ fn main(rt: HostRuntime) -> io::Result<()> {
     }
 }
 
-/// Why the process ends where it is called in another way, or has no room for its device.
+/// Why the process ends where its words are others, or there is no room for its device.
 fn wrong() -> io::Error {
     io::Error::from(ErrorKind::InvalidInput)
 }
@@ -73,7 +73,7 @@ fn play(rt: &HostRuntime, path: &str, state: &str, line: &[u8]) -> io::Result<()
     Ok(())
 }
 
-/// Carries a line out; None where it is none that a device takes.
+/// Carries a line out; None where it is no line for a device.
 fn act(device: &mut Device<FileFlash>, time: &mut u64, line: &[u8]) -> Option<&'static str> {
     let read = form(line)?;
     if !in_range(&read) {
@@ -88,7 +88,7 @@ fn act(device: &mut Device<FileFlash>, time: &mut u64, line: &[u8]) -> Option<&'
     }
 }
 
-/// Saves what the device knows, lets its uplinks go out, and says what became of a line.
+/// Saves what the device knows, sends its uplinks, and says how a line ended.
 fn answer(
     rt: &HostRuntime,
     device: &mut Device<FileFlash>,

@@ -8,7 +8,7 @@ use frag_session::Verdict;
 use image_slots::ImageState;
 use std::io;
 
-/// The version that runs and what was received to run next, its counters, and each session: what it misses, or its file.
+/// Prints the version that runs and the one received to run next, its counters, and of each session what it misses or its file.
 pub fn show(rt: &HostRuntime, device: &Device<FileFlash>) -> io::Result<()> {
     let (version, _file) = device.slots().running();
     let counts = device.counts();

@@ -1,5 +1,5 @@
-//! What a device knows beside its sessions, in a file: the bytes that it saves, the length of the file that runs in four
-//! bytes, the lowest first, that file, and the file that was received to run next.
+//! What a device knows besides its sessions, in a file: the bytes that it saves, the length of the file that runs in four bytes,
+//! the lowest first, that file, and the file that was received to run next.
 
 use device_core::{Device, DeviceConfig};
 use file_flash::FileFlash;
@@ -10,7 +10,7 @@ use std::{fs, io};
 /// The bytes that a device saves.
 const SAVED: usize = 492;
 
-/// The device that a file has, or a new one where there is no file; None where there is neither.
+/// Returns the device of a file, or a new one where there is no file; None where neither can be made.
 pub fn restored(
     rt: &HostRuntime,
     config: DeviceConfig,
@@ -41,7 +41,7 @@ fn of_bytes(
     Device::restore(rt.alloc(), config, flash, saved, running, next).ok()
 }
 
-/// Puts what a device knows in the place of what a file had, whole or not at all.
+/// Writes what a device knows over what the file had, whole or not at all.
 pub fn save(rt: &HostRuntime, path: &str, device: &Device<FileFlash>) -> io::Result<()> {
     let (_version, running) = device.slots().running();
     let mut beside = String::from_str(rt.alloc(), path)?;

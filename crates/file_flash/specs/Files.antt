@@ -1,4 +1,4 @@
--- A flash in a file, of whose bytes nothing is told.
+-- A flash in a file; nothing is said of its bytes.
 use Rattle.std.specs.Prelude.{ℕ, ◌^◌, ◌<◌}
 use Rattle.flash_session.specs.Seen.{FlashSeen}
 
@@ -8,7 +8,7 @@ pub record InFile : Type 0 where
   pub faults : ℕ
   pub small : size < 2 ^ 32
 
--- no content is told, so of what it holds and of what a stop leaves nothing is said
+-- no content has it, so nothing is said of what it holds and of what a stop leaves
 abbrev pub file_seen : InFile → FlashSeen
 file_seen flash = record {
   holds = λ c. ⊥;

@@ -1,6 +1,6 @@
-//! A flash in a file, for a device that is a process: a session that is held there outlasts the process's end at any moment.
-//! Each call that failed is counted. That a file gives what was written into it, and keeps what was synced, is the system's
-//! word, and no clause says it.
+//! A flash in a file, for a device that is a process: a session that is held there outlasts the process, whenever it ends. Each
+//! call that failed is counted. That a file returns what was written into it, and keeps what was synced, is up to the system, and
+//! no clause says it.
 //!
 //!     let flash = FileFlash::open(&rt, "device.flash", 4 * span)?;
 //!     let mut device = Device::reserve(rt.alloc(), config, flash)?;
@@ -21,7 +21,7 @@ use std::os::unix::fs::FileExt;
 pub struct FileFlash {
     file: File,
     size: u32,
-    /// How many calls failed; it stops at the type's end.
+    /// How many calls failed; the count stops at the type's end.
     failed: u64,
     ghost small: { size < 2 ^ 32 },
 }
@@ -35,8 +35,8 @@ impl Model for FileFlash {
 }
 
 impl FileFlash {
-    /// The file of this name, made where there is none, as a flash of `size` bytes. A shorter file gets zeros after its
-    /// bytes, as a range has that was cleared; of a longer one the bytes after `size` are lost. Err is the system's.
+    /// Opens the file of this name, made where there is none, as a flash of `size` bytes. A shorter file gets zeros after its
+    /// bytes, as a cleared range has them; of a longer one the bytes after `size` are lost. Err is the system's.
     pub fn open<R: Files<File = File>>(files: &R, path: &str, size: u32) -> io::Result<Self>
         ensures { IfOk result (λ f. (f.size ≡ size) × (f.faults ≡ 0)) }
     {
@@ -100,7 +100,7 @@ fn clear(file: &File, at: u32, n: u32) -> io::Result<()> {
     file.write_all_at(&ZEROS[..rest as usize], at as u64 + (n - rest) as u64)
 }
 
-/// A call that failed is counted.
+/// Counts a call that failed.
 fn counted(done: io::Result<()>, failed: &mut u64) -> Result<(), Failed>
     ensures { HasCause failed.old failed.new result }
 {

@@ -1,4 +1,4 @@
--- The records that lie after open gates: which of them is foreign.
+-- The records after open gates: which of them is foreign.
 use Rattle.std.proofs.Common.{◌≡◌, ◌≢◌, ℕ, ◌+◌, ◌*◌, ◌<◌, ◌≤◌, List, [], ◌∷◌, length, get_or, refl, sym, ap, ◌∙◌, subst, inl, inr, arith}
 use Rattle.std.proofs.lemmas.Bool.{cases_lt, cases_eq}
 use Rattle.std.proofs.lemmas.Nat.{mul-le}
@@ -21,7 +21,7 @@ use Rattle.flash_session.proofs.Fronts.{no_stray, stray_least, stray_is}
 use Rattle.flash_session.proofs.Places.{length-spelled}
 use Rattle.flash_session.proofs.Unique.{spelled_same, same_spelled, one_list}
 
--- ---- one record among those that lie there
+-- ---- one record among those that are there
 
 pub record IsAt (s : Session) (c : List ℕ) (base size k : ℕ) : Type 0 where
   pub it : Fragment

@@ -170,7 +170,7 @@ module _ (way : Via) (n : ℕ) (part : List ℕ) (mark : ℕ) where
   unfolding followed
   openable_more h s cause ranged o = record { taken = o.taken; rows = o.rows; hearable = (cause_unicast way s.setup n part cause, o.hearable); ranged = ranged }
 
-  -- what is told of a fragment that is heard
+  -- what holds for a fragment that is heard
   pub record Hears (s : Session) (whether : News) : Type 0 where
     pub cause : cause_of s.setup way n part ≡ None
     pub answered : whether ≡ (if is_new (shape_of s) (fragment n part mark) s.heard then told.New else told.Old)

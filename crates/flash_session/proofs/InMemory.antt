@@ -9,7 +9,7 @@ use Rattle.flash_session.specs.Seen.{left}
 use Rattle.flash_session.specs.Serving.{FlashServes}
 use Rattle.flash_session.proofs.Runs.{no_call, same_stays}
 
--- what is told of stops is told whatever the count of faults
+-- what holds for stops holds for any count of faults
 pub whatever_faults : {step : List ℕ → List ℕ → Type 0} {log later : List Step} {old new : List ℕ} {f g : ℕ} → Elapses step (seen_in log old 0) (seen_in later new 0) → Elapses step (seen_in log old f) (seen_in later new g)
 whatever_faults {step} {log} {later} {old} {new} {f} {g} e = record { later = e.later; each = e.each; last = e.last }
 

@@ -70,7 +70,7 @@ cause_unicast (via.Group g) setup n part e = by_group (excludes setup.mask (via.
     by_group true o e = let no : ⊥ = cc in absurd no
     by_group false o e = e
 
--- it depends on the limits and the room alone
+-- it depends only on the limits and the room
 pub openable_same : (h k : HeldSession) (s : Session) → h.limits ≡ k.limits → extent_of k.slot ≡ extent_of h.slot → h.span ≡ k.span → h.words ≡ k.words → h.bytes ≡ k.bytes → IsOpenable h s → IsOpenable k s
 openable_same h k s limits area span words bytes o =
     let rooms : room_in h ≡ room_in k = λ i. record { words = words i; bytes = bytes i; extent = sym area i; span = Some (span i) } in

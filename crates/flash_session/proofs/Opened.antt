@@ -1,4 +1,4 @@
--- What is opened stands for what lies there.
+-- What is opened stands for what is there.
 use Rattle.std.proofs.Common.{◌≡◌, ℕ, ◌+◌, ◌*◌, Bool, true, false, List, [], ◌∷◌, length, Option, Some, None, refl, sym, ap, ap₂, ◌∙◌, subst, min}
 use Rattle.std.specs.Prelude.{if◌then◌else◌}
 use Rattle.frag_model.specs.Fragments.{Fragment, Shape}
@@ -128,7 +128,7 @@ module _ (h : HeldSession) (seen : FlashSeen) (kept : IsKept seen) where
     its_news : news (shape_of S) opened.found.replayed.records ≡ opened.found.replayed.records
     its_news = all_news S opened.found.replayed.records opened.found.replayed.fed
 
-    -- what lies there for a session of this setup that heard a list with these records
+    -- what is there for a session of this setup that heard a list with these records
     lie_for : (heard : List Fragment) → news (shape_of S) heard ≡ opened.found.replayed.records → (b : List ℕ) → seen.holds b → Lies h.base (stored_of (hearing S heard) opened.body h.tallies) b
     unfolding stored_of hearing new_session shape_of
     lie_for heard is b now = record {
@@ -198,7 +198,7 @@ module _ (h : HeldSession) (seen : FlashSeen) (kept : IsKept seen) where
     opened_fine b now header = nothing_foreign h opened.setup b (header_of b now) (setup_places h opened.setup opened.fine).most h.records (opened.found.gates b now)
         h.tallies (opened.found.tallies b now) opened.found.replayed.records opened.found.replayed.count (opened.found.replayed.lie b now) opened.found.replayed.ranged opened.found.replayed.fed
 
-    -- what lies for a session, opened
+    -- what is there for a session, opened
     for_list : (heard : List Fragment) (b : List ℕ) → seen.holds b → LiesFor h (hearing S heard) b → IsHeldAs h (Some (hearing S heard)) seen
     unfolding stored_of hearing new_session shape_of
     for_list heard b now lies =
@@ -227,7 +227,7 @@ module _ (h : HeldSession) (seen : FlashSeen) (kept : IsKept seen) where
         let it : s ≡ hearing S s.heard = session_is s setup lies.openable.rows in
         subst (λ (x : Session). IsHeldAs h (Some x) seen) (sym it) (for_list s.heard b now (subst (λ (x : Session). LiesFor h x b) it lies))
 
--- ---- what lies for a session is not foreign
+-- ---- what is there for a session is not foreign
 
 new_is_fed : (limits : Limits) (s : Session) (older : List Fragment) (f : Fragment) → s.rows ≡ min limits.rows s.setup.nb_frag → IsFed s older f → IsFed (new_session limits s.setup) older f
 unfolding new_session hearing

@@ -1,4 +1,4 @@
--- What a change of some places leaves of the session that lies in a range.
+-- What a change of some places leaves of the session in a range.
 use Rattle.std.proofs.Common.{◌≡◌, ◌≢◌, ◌⊎◌, ℕ, suc, ◌+◌, ◌-◌, ◌*◌, ◌<◌, ◌≤◌, List, [], ◌∷◌, ◌++◌, length, sym, ◌∙◌, subst, inl, inr, arith, length-append, w16, w64}
 use Rattle.std.proofs.lemmas.Bool.{cases_eq, cases_lt}
 use Rattle.std.proofs.lemmas.Nat.{mul-le}
@@ -8,7 +8,7 @@ use Rattle.flash_session.specs.Contents.{byte_at, SameOutside, SameWithin}
 use Rattle.flash_session.specs.Layout.{open_gate, body_at, gates_at, tallies_at, most_tallies, records_at, spelled}
 use Rattle.flash_session.specs.Lies.{Stored, SpelledAt, GatesOpen, record_at, RecordsLie, Lies, Fits, with_record, with_tally}
 
--- bytes that stay still lie there
+-- bytes that stay are still there
 pub spelled_kept : (c d : List ℕ) (at : ℕ) (piece : List ℕ) → ((i : ℕ) → i < length piece → byte_at d (at + i) ≡ byte_at c (at + i)) → SpelledAt c at piece → SpelledAt d at piece
 spelled_kept c d at piece same lies = record { bytes = λ i lt. same i lt ∙ lies.bytes i lt }
 
@@ -19,7 +19,7 @@ gates_kept c d at n most same gates = record {
   shut = λ k le lt is. gates.shut k le lt (sym (same k lt) ∙ is);
 }
 
--- the gate after those that are open has whatever byte: as many are open as before, or one more
+-- the gate after those that are open has any byte: as many are open as before, or one more
 gates_torn : (c d : List ℕ) (at n most more : ℕ) → more ≡ n + 1 → n < most → SameOutside (at + n) 1 c d → GatesOpen c at n most → GatesOpen d at n most ⊎ GatesOpen d at more most
 gates_torn c d at n most more is room same gates =
     let others : (k : ℕ) → k ≢ n → byte_at d (at + k) ≡ byte_at c (at + k) = λ (k : ℕ) (other : k ≢ n).
@@ -71,7 +71,7 @@ module _ (base span : ℕ) (s : Stored) (fits : Fits span s) where
       let most : (10 + s.size) * length s.records ≤ (10 + s.size) * s.most = mul-le (10 + s.size) (length s.records) (10 + s.size) s.most (omega arith) few in
       omega (arith, most, fits.room)
 
-  -- the session depends on the places that it reads alone
+  -- the session depends only on the places that it reads
   pub lies_kept : (c d : List ℕ)
       → ((i : ℕ) → base ≤ i → i < record_at base s.size (length s.records) → byte_at d i ≡ byte_at c i) → Lies base s c → Lies base s d
   lies_kept c d same lies =
@@ -106,7 +106,7 @@ module _ (base span : ℕ) (s : Stored) (fits : Fits span s) where
             same.below i (omega (arith, behind, lt, inside))
       ]) lies
 
-  -- the record is written, and its gate has whatever byte: the session as it was, or with the record
+  -- the record is written, and its gate has any byte: the session as it was, or with the record
   pub gate_torn : (f : Fragment) (c d : List ℕ) → length s.records < s.most → length f.part ≡ s.size → Lies base s c
       → SpelledAt c (record_at base s.size (length s.records)) (spelled f) → SameOutside (gates_at base + length s.records) 1 c d → Lies base s d ⊎ Lies base (with_record s f) d
   unfolding with_record
@@ -128,7 +128,7 @@ module _ (base span : ℕ) (s : Stored) (fits : Fits span s) where
         })
       ]
 
-  -- a tally's gate has whatever byte: the session as it was, or with the tally
+  -- a tally's gate has any byte: the session as it was, or with the tally
   pub tally_torn : (c d : List ℕ) → s.tallies < most_tallies → Lies base s c → SameOutside (tallies_at base + s.tallies) 1 c d → Lies base s d ⊎ Lies base (with_tally s) d
   unfolding with_tally
   tally_torn c d room lies same =

@@ -110,7 +110,7 @@ body_written req fit = record {
   };
 }
 
--- what lies there as it is stored lies there for the session
+-- what is there as it is stored is there for the session
 pub old_lies : (h : HeldSession) (o : Option Session) (seen : FlashSeen) (held : IsHeldAs h o seen) (c : List ℕ) → LiesAs h.base (stored_as o held.body h.tallies) c → LiesForAs h o c
 old_lies h None seen held c lies = lies
 old_lies h (Some s) seen held c lies = record {
@@ -171,7 +171,7 @@ module _ (h : HeldSession) (req : SetupReq) (fine : setup_bits h.limits (room_in
     stored = subst (λ (x : Stored). IsStoredAs h.base h.span (Some x) seen) new_stored_is stored;
   }
 
-  -- it begins with this body, in the place of what is held
+  -- it begins with this body, instead of what is held
   abbrev pub beginning : FieldsFit req → (o : Option Session) {seen : FlashSeen} (held : IsHeldAs h o seen) (b : Bool) → ((s : Option Session) → Stands h.slot s → b ≡ is_some s) → Beginning h.span b (setup_bytes req)
   beginning fit o {seen} held b is = record {
     before = stored_as o held.body h.tallies;
@@ -279,7 +279,7 @@ answered_as h (Some s) way all n a held counts e answered =
     ∙ counted_answer (hearing s held.slot.fed).setup (seen_of (hearing s held.slot.fed)) way all n
     ∙ ap₂ (λ (x : SetupReq) (y : Seen). status_in x y way all) (no_more s held.slot.fed) (shows_count s held.slot.fed n held.slot.means (e ∙ count_is h s held counts))
 
--- ---- one history in the place of an equal one
+-- ---- one history instead of an equal one
 
 pub stands_equal : (h : HeldSession) (o p : Option Session) → p ≡ o → HeldStandsAs h o → HeldStandsAs h p
 stands_equal h o p e held = subst (HeldStandsAs h) (sym e) held
@@ -301,7 +301,7 @@ moments_new h o p q {old} {new} e leaves = subst (λ (x : Option Session). Leave
 pub unmoved_setup : (h k : HeldSession) (o p : Option Session) {seen : FlashSeen} → h ≡ k → 24640 ≤ h.span → IsHeldAs k o seen → LeavesOnly (OldNoneOrNew k o p) seen seen
 unmoved_setup h k o p {seen} e long held = unmoved k o (λ c. NoSession k.base c ⊎ LiesForAs k p c) (subst (λ (x : HeldSession). 24640 ≤ x.span) e long) held
 
--- the slot's view and answer are told of what is held
+-- the slot's view and answer are those of what is held
 pub at_view : (h k : HeldSession) (v : Option Seen) → h ≡ k → ((s : Option Session) → Stands h.slot s → v ≡ view_of s) → (s : Option Session) → Stands k.slot s → v ≡ view_of s
 at_view h k v e shown = subst (λ (x : HeldSession). (s : Option Session) → Stands x.slot s → v ≡ view_of s) e shown
 

@@ -50,7 +50,7 @@ found_true P Q b is found = subst (λ (x : Bool). MatchBool x P Q) is found
 pub found_false : (P Q : Type 0) (b : Bool) → b ≡ false → MatchBool b P Q → Q
 found_false P Q b is found = subst (λ (x : Bool). MatchBool x P Q) is found
 
--- what is told of an Err
+-- what holds at an Err
 pub on_err : {T E : Type 0} {P Q : E → Type 0} → ((e : E) → P e → Q e) → (r : Result T E) → IfErr r P → IfErr r Q
 on_err to (Ok x) p = tt
 on_err to (Err e) p = to e p
@@ -81,7 +81,7 @@ kept_reads {old} {new} kept stays elapses = record {
       (f.0, f.1, same_after f.0 e.0 c f.2 (same_after e.0 d.0 c e.2 d.2));
 }
 
--- what is told of an Ok, and of what an Ok promises
+-- what holds at an Ok, and what an Ok promises
 pub if_ok_both : {T E : Type 0} {P Q : T → Type 0} {X Y : Type 0} → ((x : T) → P x → (X → Y) → Q x) → (r : Result T E) → IfOk r P → (X → OnOk r Y) → IfOk r Q
 if_ok_both to (Ok x) p q = to x p q
 if_ok_both to (Err e) p q = tt

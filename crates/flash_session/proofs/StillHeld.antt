@@ -1,4 +1,4 @@
--- A session that is held, and what lies for one, while others are read.
+-- A session that is held, and what is stored for one, while others are read.
 use Rattle.std.proofs.Common.{ℕ, ◌+◌, ◌≤◌, List, Option, None, Some, inl, inr, sym, ◌∙◌, arith}
 use Rattle.frag_session.specs.Session.{Session}
 use Rattle.flash_session.specs.Contents.{Same, SameWithin, Follows}
@@ -18,7 +18,7 @@ same_within at n b c same = record { within = λ i lt. same.all (at + i) }
 pub same_back : (b c : List ℕ) → Same b c → Same c b
 same_back b c same = record { all = λ i. sym (same.all i) }
 
--- what lies in equal bytes
+-- what equal bytes stand for
 pub lies_for_same : (h : HeldSession) (o : Option Session) (b c : List ℕ) → Same b c → LiesForAs h o b → LiesForAs h o c
 lies_for_same h None b c same none = λ is. none (sym (same.all h.base) ∙ is)
 lies_for_same h (Some s) b c same lies = record {

@@ -41,7 +41,7 @@ one_list c base size (x ∷ xs) (y ∷ ys) same rx ry lx ly =
     (same_spelled c (record_at base size (length xs)) (spelled x) (spelled y) (omega (arith, length-spelled x, length-spelled y, lx.0, ly.0)) lx.1 here) in
     ap₂ (λ (f : Fragment) (fs : List Fragment). f ∷ fs) first rest
 
--- what lies after what lies there
+-- what comes after what is there
 pub spelled_joined : (c : List ℕ) (at : ℕ) (xs ys : List ℕ) → SpelledAt c at xs → SpelledAt c (at + length xs) ys → SpelledAt c at (xs ++ ys)
 spelled_joined c at xs ys one two = record {
   bytes = λ i lt. elim (cases_lt i (length xs)) [

@@ -55,7 +55,7 @@ session = record {
   stored = refl;
 }
 
--- every place is behind the header's gate
+-- every place is after the header's gate
 behind : (other from x : ℕ) → 1 ≤ from → other ≡ from + x → 1 ≤ other
 behind other from x le e = omega (arith, le, e)
 
@@ -69,7 +69,7 @@ lowest other (foreign.written k e record_) = behind other 24640 _ (omega arith) 
 zero_fragment : Fragment
 zero_fragment = record { number = 0; part = replicate 3 0; mark = 0 }
 
--- its record lies where nothing was written
+-- its record is where nothing was written
 zeros_at : (c : List ℕ) (at : ℕ) → length c ≤ at → SpelledAt c at (spelled zero_fragment)
 unfolding zero_fragment spelled
 zeros_at c at past = record {

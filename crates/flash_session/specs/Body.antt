@@ -1,5 +1,5 @@
--- The setup of a session as it lies in flash: the ten bytes of FragSessionSetupReq after its CID (TS004-1.0.0). Reserved bits
--- are written 0, and ignored.
+-- The stored setup of a session: the ten bytes of FragSessionSetupReq after its CID (TS004-1.0.0). Reserved bits are written 0,
+-- and ignored.
 use Rattle.std.specs.Prelude.{◌≡◌, ℕ, ◌+◌, ◌*◌, ◌/◌, ◌%◌, ◌<◌, List, [], ◌∷◌, length, get_or}
 use Rattle.frag_session.specs.declared.setups.SetupReq.{SetupReq}
 use Rattle.flash_session.specs.Contents.{byte_at}

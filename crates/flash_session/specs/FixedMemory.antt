@@ -1,4 +1,4 @@
--- What the fixed memory of a session in flash knows of all that the session heard, though a part of it is counted alone.
+-- What the fixed memory of a session in flash knows of all that the session heard, though a part of it is only counted.
 use Rattle.std.specs.Prelude.{◌≡◌, ◌↔◌, ℕ, suc, ◌<◌, List}
 use Rattle.frag_model.specs.Gain.{is_sum, gain, direct, excess, numbers_of}
 use Rattle.frag_model.specs.Members.{In}
@@ -12,8 +12,8 @@ use Rattle.row_elimination.specs.HeldPlaces.{rows_held, pieces_held, gained_held
 use Rattle.flash_session.specs.HeldSession.{HeldSession}
 use Rattle.flash_session.specs.Sessions.{HeldStands}
 
--- nothing is decided, and what the solver holds tells what the whole list tells: the same blocks fit, the lines have the same
--- sums, the rows held are its excess, and the marked numbers are those of its pieces that came uncoded
+-- nothing is decided, and what the solver holds says what the whole list says: the same blocks fit, the lines have the same sums,
+-- the rows held are its excess, and the marked numbers are those of its pieces that came uncoded
 pub record KnowsAll (k : Held) (s : Session) : Type 0 where
   pub undecided : verdict (shape_of s) s.heard ≡ receiving
   pub fits : (block : List (List ℕ)) → FittingBlock (shape_of s) s.heard block ↔ FitsHeld k.solver.shape k.solver.places block

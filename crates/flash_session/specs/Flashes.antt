@@ -31,7 +31,7 @@ pub record Cells : Type 0 where
   pub bytes : List ℕ
   pub small : length bytes < 2 ^ 32
 
--- of a stop they tell nothing, and no call fails
+-- they tell nothing of a stop, and no call fails
 abbrev pub cells_seen : List ℕ → FlashSeen
 cells_seen bytes = record {
   holds = λ c. c ≡ bytes;

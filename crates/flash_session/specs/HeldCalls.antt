@@ -22,7 +22,7 @@ OldOrNew h old new c = LiesForAs h old c ⊎ LiesForAs h new c
 abbrev pub OldNoneOrNew : HeldSession → (old new : Option Session) → List ℕ → Type 0
 OldNoneOrNew h old new c = LiesForAs h old c ⊎ NoSession h.base c ⊎ LiesForAs h new c
 
--- A call made of a session what `after` makes of it, in a solver of so many words and bytes. At Err its memory is handed back.
+-- A call made of a session what `after` makes of it, in a solver of so many words and bytes. At Err its memory is returned.
 pub record HeldServes {Answer : Type 0} (words bytes : ℕ) (h : HeldSession) (after : Option Session → Option Session)
     (leaves : (old new : Option Session) → List ℕ → Type 0) (old new : FlashSeen)
     (result : Result (HeldSession × Answer) Extent) : Type 0 where
@@ -31,9 +31,9 @@ pub record HeldServes {Answer : Type 0} (words bytes : ℕ) (h : HeldSession) (a
   pub counted : (o : Option Session) → HeldStandsAs h o → CountsAs h o → IfOk result (λ r. CountsAs r.0 (after o))
   -- it is what a read gives, and what a stop leaves
   pub acknowledged : (o : Option Session) → IsHeldAs h o old → IfOk result (λ r. IsHeldAs r.0 (after o) new)
-  -- a stop at any moment leaves this alone
+  -- a stop at any moment leaves only this
   pub any_moment : (o : Option Session) → IsHeldAs h o old → LeavesOnly (leaves o (after o)) old new
-  -- and where the flash failed a read gives this alone
+  -- and where the flash failed a read gives only this
   pub again : (o : Option Session) → IsHeldAs h o old → OnErr result ((b : List ℕ) → new.holds b → leaves o (after o) b)
   -- what a stop leaves as a read gives it in another range is left so
   pub others : (at n : ℕ) → Follows (SameWithin at n) old.holds (left old) → OnOk result (Follows (SameWithin at n) new.holds (left new))
@@ -43,9 +43,9 @@ pub record HeldServes {Answer : Type 0} (words bytes : ℕ) (h : HeldSession) (a
   -- nothing outside its range is written
   pub serves : FlashServes (SameOutside h.base h.span) old new result
 
--- What is opened, whatever lies there.
+-- What is opened, whatever is there.
 pub record HeldOpened (words bytes base span : ℕ) (limits : Limits) (extent : Extent) (h : HeldSession) (seen : FlashSeen) : Type 0 where
-  -- it stands for the records there, but for the count
+  -- it stands for the records there, except for the count
   pub held_but : (o : Option Session) × IsHeldBut h o seen
   pub nothing_foreign : (b : List ℕ) → seen.holds b → NothingForeign (place_in words bytes base span limits extent) b
   pub place : IsPlaceOf h words bytes base span limits extent

@@ -5,7 +5,7 @@ use Rattle.frag_session.specs.Held.{HeldSlot}
 use Rattle.frag_session.specs.Setup.{Room}
 use Rattle.frag_session.specs.HeldSteps.{extent_of}
 
--- what its slot keeps, the limits, its range, how many records and tallies lie there, and what there is for rows
+-- what its slot keeps, the limits, its range, how many records and tallies are there, and what there is for rows
 pub record HeldSession : Type 0 where
   pub slot : HeldSlot
   pub limits : Limits

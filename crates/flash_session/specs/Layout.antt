@@ -1,4 +1,4 @@
--- Where the parts of a session lie in its range, counted from the range's first byte, and how a record is spelled.
+-- Where the parts of a session are in its range, counted from the range's first byte, and how a record is spelled.
 use Rattle.std.specs.Prelude.{ℕ, ◌+◌, List, ◌++◌}
 use Rattle.std.specs.Int.{to_le_bytes, w16, w64}
 use Rattle.frag_model.specs.Fragments.{Fragment}
@@ -9,7 +9,7 @@ use Rattle.frag_model.specs.Fragments.{Fragment}
 abbrev pub open_gate : ℕ
 open_gate = 0xa5
 
--- the header's gate is the first byte, and the setup's body lies after it
+-- the header's gate is the first byte, and the setup's body comes after it
 abbrev pub body_place : ℕ
 body_place = 1
 
@@ -23,7 +23,7 @@ gates_place = 64
 abbrev pub most_records : ℕ
 most_records = 8193
 
--- a gate for each fragment that is counted alone
+-- a gate for each fragment that is only counted
 abbrev pub tallies_place : ℕ
 tallies_place = 8257
 
@@ -38,7 +38,7 @@ gates_size = 24576
 abbrev pub records_place : ℕ
 records_place = 24640
 
--- ---- where they lie in a flash
+-- ---- where they are in a flash
 
 abbrev pub body_at : ℕ → ℕ
 body_at base = base + body_place

@@ -6,8 +6,8 @@ use Rattle.flash_session.specs.Seen.{FlashSeen, left}
 use Rattle.flash_session.specs.Layout.{open_gate, body_size, most_records, gates_size, records_place}
 use Rattle.flash_session.specs.Layout.{body_at, gates_at, tallies_at, most_tallies, records_at, spelled}
 
--- a session as it lies in flash: the bytes of its setup, how many records it has at most, the bytes of a record's data,
--- its records, newest first, and how many fragments were noted by a gate alone
+-- a session as it is stored in flash: the bytes of its setup, how many records it has at most, the bytes of a record's data, its
+-- records, newest first, and how many fragments were noted only by a gate
 pub record Stored : Type 0 where
   pub body : List ℕ
   pub most : ℕ
@@ -15,7 +15,7 @@ pub record Stored : Type 0 where
   pub records : List Fragment
   pub tallies : ℕ
 
--- these bytes lie there
+-- these bytes are there
 pub record SpelledAt (c : List ℕ) (at : ℕ) (piece : List ℕ) : Type 0 where
   pub bytes : (i : ℕ) → i < length piece → byte_at c (at + i) ≡ get_or piece i 0
 
@@ -25,7 +25,7 @@ pub record GatesOpen (c : List ℕ) (at n most : ℕ) : Type 0 where
   pub opened : (k : ℕ) → k < n → byte_at c (at + k) ≡ open_gate
   pub shut : (k : ℕ) → n ≤ k → k < most → byte_at c (at + k) ≢ open_gate
 
--- where record k lies
+-- where record k begins
 abbrev pub record_at : ℕ → ℕ → ℕ → ℕ
 record_at base size k = records_at base + (10 + size) * k
 
@@ -35,7 +35,7 @@ RecordsLie c base size [] = Unit {0}
 RecordsLie c base size (f ∷ older) =
     (length f.part ≡ size) × SpelledAt c (record_at base size (length older)) (spelled f) × RecordsLie c base size older
 
--- the session lies there
+-- the session is there
 pub record Lies (base : ℕ) (s : Stored) (c : List ℕ) : Type 0 where
   pub header : byte_at c base ≡ open_gate
   pub body : SpelledAt c (body_at base) s.body
@@ -59,7 +59,7 @@ with_tally s = record s { tallies = s.tallies + 1 }
 
 -- ---- with a session or without
 
--- there is no session: the header's gate is not open, whatever lies after it
+-- there is no session: the header's gate is not open, whatever comes after it
 abbrev pub NoSession : ℕ → List ℕ → Type 0
 NoSession base c = byte_at c base ≢ open_gate
 
@@ -84,7 +84,7 @@ IsStored base span s seen = IsStoredAs base span (Some s) seen
 abbrev pub new_stored : List ℕ → ℕ → ℕ → Stored
 new_stored body most size = record { body = body; most = most; size = size; records = []; tallies = 0 }
 
--- the parts of a session that heard nothing lie after the header's gate
+-- the parts of a session that heard nothing are there, after the header's gate
 pub record IsCleared (base : ℕ) (body : List ℕ) (c : List ℕ) : Type 0 where
   pub body_is : SpelledAt c (body_at base) body
   pub gates : (k : ℕ) → k < gates_size → byte_at c (gates_at base + k) ≡ 0

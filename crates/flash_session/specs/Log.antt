@@ -1,5 +1,5 @@
--- The log of a flash in memory, oldest step first: each byte that was overwritten, and each sync. It tells what a read gave
--- at each moment, and what a stop might then have left.
+-- The log of a flash in memory, oldest step first: each byte that was overwritten, and each sync. It says what a read gave at
+-- each moment, and what a stop might then have left.
 use Rattle.std.specs.Prelude.{◌≡◌, ℕ, ◌≤◌, Bool, false, ◌||◌, ◌==◌, List, [], ◌∷◌, length, take, drop, if◌then◌else◌}
 use Rattle.flash_session.specs.declared.log.Step.{Step}
 use Rattle.flash_session.specs.declared.log.Step.TheVariants.{Was, Synced}

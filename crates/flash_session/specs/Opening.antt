@@ -1,4 +1,4 @@
--- When what lies in a range is no session's, and where.
+-- When the bytes of a range are no session's, and where.
 use Rattle.std.specs.Prelude.{◌≡◌, ◌≢◌, ℕ, ◌+◌, ◌*◌, ◌<◌, ◌≤◌, List, length, Some}
 use Rattle.frag_model.specs.Fragments.{Fragment}
 use Rattle.frag_session.specs.declared.answers.Via.TheVariants as via
@@ -34,13 +34,13 @@ pub record IsStray (c : List ℕ) (at most k : ℕ) : Type 0 where
   pub before : closed < k
   pub shut : byte_at c (at + closed) ≢ open_gate
 
--- after these the session hears the fragment, and it tells something new
+-- after these the session hears the fragment, and it is new
 abbrev pub IsFed : Session → List Fragment → Fragment → Type 0
 IsFed s older f = answer_of (drop_cause (Some (hearing s older)) via.Unicast f.number f.part)
     (news_in (Some (hearing s older)) f.number f.part f.mark) ≡ answer.Fed news.New
 
--- the gates of record k and of all before it are open, and it is no fragment that tells the session something new after them: its
--- number is out of range, or it changes nothing
+-- the gates of record k and of all before it are open, and it is no fragment that is new to the session after them: its number is
+-- out of range, or it changes nothing
 pub record IsForeignRecord (s : Session) (c : List ℕ) (base most k : ℕ) : Type 0 where
   pub within : k < most
   pub used : (j : ℕ) → j ≤ k → byte_at c (gates_at base + j) ≡ open_gate

@@ -1,4 +1,4 @@
--- What a call makes of what a range of a flash stands for.
+-- How a call changes what a range of a flash stands for.
 use Rattle.std.specs.Prelude.{◌≡◌, ◌⊎◌, ℕ, ◌<◌, List, length, is_some, Bool, Option, Result, OnOk}
 use Rattle.frag_model.specs.Fragments.{Fragment}
 use Rattle.flash_session.specs.Contents.{SameOutside}
@@ -21,7 +21,7 @@ pub record RangeServes {Change T E : Type 0} (base span : ℕ) (leaves : Option 
     (was is : Change → Option Stored) (old new : FlashSeen) (result : Result T E) : Type 0 where
   -- at Ok it is stored
   pub acknowledged : (x : Change) → IsStoredAs base span (was x) old → OnOk result (IsStoredAs base span (is x) new)
-  -- a stop at any moment leaves this alone
+  -- a stop at any moment leaves only this
   pub any_moment : (x : Change) → IsStoredAs base span (was x) old → LeavesOnly (leaves (was x) (is x)) old new
   -- nothing outside the range is written
   pub serves : FlashServes (SameOutside base span) old new result
@@ -33,7 +33,7 @@ pub record Living (lives : Bool) : Type 0 where
   pub before : Option Stored
   pub as_told : lives ≡ is_some before
 
--- a session that heard nothing, whose parts lie there
+-- a session that heard nothing, whose parts are there
 pub record Opening (base span : ℕ) (old : FlashSeen) : Type 0 where
   pub body : List ℕ
   pub most : ℕ
@@ -41,7 +41,7 @@ pub record Opening (base span : ℕ) (old : FlashSeen) : Type 0 where
   pub fits : Fits span (new_stored body most size)
   pub cleared : (b : List ℕ) → old.holds b → IsCleared base body b
 
--- one that begins with this body, in the place of whatever lived
+-- one that begins with this body, instead of whatever was there
 pub record Beginning (span : ℕ) (lives : Bool) (body : List ℕ) : Type 0 where
   pub before : Option Stored
   pub as_told : lives ≡ is_some before

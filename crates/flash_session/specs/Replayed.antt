@@ -20,12 +20,12 @@ use Rattle.flash_session.specs.Opening.{IsFed, setup_there}
 use Rattle.flash_session.specs.Seen.{FlashSeen}
 use Rattle.flash_session.specs.Sessions.{hearing}
 
--- each tells something new after those before it
+-- each is new after those before it
 abbrev pub AllFed : Session → List Fragment → Type 0
 AllFed s [] = Unit {0}
 AllFed s (f ∷ older) = IsFed s older f × AllFed s older
 
--- the first k records lie there, each tells something new after those before it, and the slot stands for them
+-- the first k records are there, each is new after those before it, and the slot stands for them
 pub record Replayed (s : Session) (x : HeldSlot) (holds : List ℕ → Type 0) (base size k : ℕ) : Type 0 where
   pub records : List Fragment
   pub count : length records ≡ k
@@ -34,7 +34,7 @@ pub record Replayed (s : Session) (x : HeldSlot) (holds : List ℕ → Type 0) (
   pub fed : AllFed s records
   pub stands : Stands x (Some (hearing s records))
 
--- the record after them is dropped, or tells nothing new
+-- the record after them is dropped, or is not new
 pub record StopsAt (s : Session) (holds : List ℕ → Type 0) (base size k : ℕ) : Type 0 where
   pub records : List Fragment
   pub count : length records ≡ k
@@ -60,13 +60,13 @@ place_in words bytes base span limits extent = record {
   bytes = bytes;
 }
 
--- the header of a session with this setup lies there, and the setup is accepted
+-- the header of a session with this setup is there, and the setup is accepted
 pub record HasHeader (h : HeldSession) (setup : SetupReq) (c : List ℕ) : Type 0 where
   pub header : byte_at c h.base ≡ open_gate
   pub setup_is : setup_there h c ≡ setup
   pub fine : setup_bits h.limits (room_in h) setup ≡ 0
 
--- after it lie so many records and tallies, and the slot heard the records
+-- after it there are so many records and tallies, and the slot heard the records
 pub record IsFound (limits : Limits) (setup : SetupReq) (x : HeldSlot) (holds : List ℕ → Type 0) (base : ℕ) (counts : Counts) : Type 0 where
   pub replayed : Replayed (new_session limits setup) x holds base setup.frag_size counts.records
   pub gates : (b : List ℕ) → holds b → GatesOpen b (gates_at base) counts.records (2 * setup.nb_frag + 1)

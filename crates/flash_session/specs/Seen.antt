@@ -1,4 +1,4 @@
--- What a flash tells of itself at one moment. What it does not tell, no content has: then nothing is said of it.
+-- What a flash tells of itself at one moment. Where it tells nothing, no content has this: then nothing is said of it.
 use Rattle.std.specs.Prelude.{ℕ, List}
 use Rattle.flash_session.specs.Contents.{Same, Follows}
 

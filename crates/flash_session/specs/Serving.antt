@@ -31,7 +31,7 @@ pub record FlashOpens {T E : Type 0} (fault_of : E → OpenFault) (finds : T →
     (names : List ℕ → (place : ℕ) → Type 0) (old new : FlashSeen) (result : Result T E) : Type 0 where
   pub found : IfOk result (λ x. finds x new)
   pub foreign : IfErr result (λ e. (p : ℕ) → fault_of e ≡ why.Foreign p → (b : List ℕ) → new.holds b → names b p)
-  -- where all was synced it is so still
+  -- where all was synced it still is
   pub kept : IsKept old → OnOk result (IsKept new)
   pub held : Follows Same old.holds new.holds
   pub stops : Elapses Same old new

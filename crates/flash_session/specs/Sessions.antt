@@ -1,4 +1,4 @@
--- When a session in flash stands for a history, and what lies in a range for one.
+-- When a session in flash stands for a history, and what is in a range for one.
 use Rattle.std.specs.Prelude.{◌≡◌, ℕ, ◌+◌, ◌*◌, ◌≤◌, min, List, [], ◌∷◌, length, Option, None, Some}
 use Rattle.frag_model.specs.Fragments.{Fragment}
 use Rattle.frag_model.specs.News.{news, MeanTheSame}
@@ -43,7 +43,7 @@ IsCount s tallies = min (length (news (shape_of s) s.heard) + tallies) max_recei
 unfoldable pub hearing : Session → List Fragment → Session
 hearing s heard = record s { heard = heard }
 
--- the slot stands for a list that means the same, so but for the count it shows what the session shows
+-- the slot stands for a list that means the same, so except for the count it shows what the session shows
 pub record StandsBut (x : HeldSlot) (s : Session) : Type 0 where
   pub fed : List Fragment
   pub stands : Stands x (Some (hearing s fed))
@@ -62,7 +62,7 @@ pub record IsOpenable (h : HeldSession) (s : Session) : Type 0 where
   pub hearable : AreHearable s.setup s.heard
   pub ranged : AllInRange (news (shape_of s) s.heard)
 
--- the session lies there, and can be opened: opening gives what stands for it
+-- the session is there, and can be opened: opening gives what stands for it
 pub record LiesFor (h : HeldSession) (s : Session) (c : List ℕ) : Type 0 where
   pub openable : IsOpenable h s
   pub body : List ℕ
@@ -76,7 +76,7 @@ abbrev pub LiesForAs : HeldSession → Option Session → List ℕ → Type 0
 LiesForAs h None c = NoSession h.base c
 LiesForAs h (Some s) c = LiesFor h s c
 
--- what is held in memory stands for the session, but for the count
+-- what is held in memory stands for the session, except for the count
 pub record HeldStands (h : HeldSession) (s : Session) : Type 0 where
   pub slot : StandsBut h.slot s
   pub openable : IsOpenable h s
@@ -92,7 +92,7 @@ abbrev pub CountsAs : HeldSession → Option Session → Type 0
 CountsAs h None = Unit {0}
 CountsAs h (Some s) = IsCount s h.tallies
 
--- what is held stands for the session but for the count, and is what a read gives, and what a stop leaves in the range
+-- what is held stands for the session except for the count, and is what a read gives, and what a stop leaves in the range
 pub record IsHeldBut (h : HeldSession) (o : Option Session) (seen : FlashSeen) : Type 0 where
   pub stands : HeldStandsAs h o
   pub body : List ℕ

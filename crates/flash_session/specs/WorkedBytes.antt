@@ -33,12 +33,12 @@ pub record WorkedSpellings : Type 0 where
 
 -- ---- a stored session
 
--- these bytes lie there
+-- these bytes are there
 abbrev pub AreAt : List ℕ → (at : ℕ) → List ℕ → Type 0
 AreAt c at [] = Unit {0}
 AreAt c at (byte ∷ bytes) = (byte_at c at ≡ byte) × AreAt c (at + 1) bytes
 
--- a session of two fragments of 3 bytes, with two records, newest first, and a fragment that was counted alone
+-- a session of two fragments of 3 bytes, with two records, newest first, and a fragment that was only counted
 abbrev pub worked_stored : Stored
 worked_stored = record {
   body = setup_bytes (record worked_setup { nb_frag = 2 });
@@ -49,7 +49,7 @@ worked_stored = record {
   tallies = 1;
 }
 
--- it lies in the range from byte 100 on
+-- it is in the range from byte 100 on
 abbrev pub LiesAt100 : List ℕ → Type 0
 LiesAt100 c = Lies 100 worked_stored c
 
@@ -67,7 +67,7 @@ pub record WorkedSession : Type 0 where
   pub gates : (c : List ℕ) → LiesAt100 c → AreAt c 164 (0xa5 ∷ 0xa5 ∷ [])
   pub next_gate : (c : List ℕ) → LiesAt100 c → byte_at c 166 ≢ 0xa5
   pub last_gate : (c : List ℕ) → LiesAt100 c → byte_at c 168 ≢ 0xa5
-  -- and one of 16,383 for what told nothing new
+  -- and one of 16,383 for a fragment that was not new
   pub tally : (c : List ℕ) → LiesAt100 c → AreAt c 8357 (0xa5 ∷ [])
   pub next_tally : (c : List ℕ) → LiesAt100 c → byte_at c 8358 ≢ 0xa5
   pub last_tally : (c : List ℕ) → LiesAt100 c → byte_at c 24739 ≢ 0xa5
@@ -76,7 +76,7 @@ pub record WorkedSession : Type 0 where
       → AreAt c 24740 (0x01 ∷ 0x00 ∷ 0x07 ∷ 0x00 ∷ 0x00 ∷ 0x00 ∷ 0x00 ∷ 0x00 ∷ 0x00 ∷ 0x00 ∷ 0x07 ∷ 0x08 ∷ 0x09 ∷ [])
   pub newest : (c : List ℕ) → LiesAt100 c
       → AreAt c 24753 (0x04 ∷ 0x00 ∷ 0x09 ∷ 0x00 ∷ 0x00 ∷ 0x00 ∷ 0x00 ∷ 0x00 ∷ 0x00 ∷ 0x00 ∷ 0x0a ∷ 0x0b ∷ 0x0c ∷ [])
-  -- of what was heard the first is a record, and what comes again is none
+  -- the first fragment heard is a record, and one that comes again is none
   pub stored : stored_of (record { setup = small_setup; rows = 1; heard = whole_at 8 ∷ whole_at 7 ∷ [] }) (setup_bytes small_setup) 1
       ≡ record { body = setup_bytes small_setup; most = 3; size = 1; records = whole_at 7 ∷ []; tallies = 1 }
 
@@ -87,7 +87,7 @@ abbrev pub place_2 : HeldSession
 place_2 = place_in 16384 61184 2 30000 (record { sessions = 4; rows = 256; descriptor = None }) (extent_for 262382)
 
 -- what is read there: the header's gate and a setup of so many fragments of 3 bytes, and then these bytes from the gates on;
--- behind them nothing is open
+-- after them nothing is open
 abbrev pub content : (nb_frag : ℕ) → List ℕ → List ℕ
 content nb_frag gates =
     0x00 ∷ 0x00 ∷ 0xa5 ∷ 0x12 ∷ nb_frag ∷ 0x00 ∷ 0x03 ∷ 0x04 ∷ 0x01 ∷ 0x0d ∷ 0x0c ∷ 0x0b ∷ 0x0a ∷ replicate 53 0x00 ++ gates
@@ -113,6 +113,6 @@ pub record WorkedCalls : Type 0 where
   pub first : fails_next (calls_of 0 (1 ∷ [])) 0 ≡ true
   pub second : fails_next (calls_of 1 (1 ∷ [])) 0 ≡ false
   pub none : fails_next (calls_of 0 (0 ∷ [])) 0 ≡ false
-  -- a call fails for whose steps no room is left
+  -- a call fails where no room is left for its steps
   pub room : fails_next (calls_of 0 []) 3 ≡ false
   pub no_room : fails_next (calls_of 0 []) 4 ≡ true

@@ -10,7 +10,7 @@ use crate::flash::{Failed, Flash};
 use crate::layout::{BODY, GATES, OPEN, RECORD_GATES};
 use crate::storing::write_synced;
 
-/// Ends a session that lives: closes its header's gate.
+/// Ends a session: closes its header's gate.
 pub fn end<F: Flash>(flash: &mut F, base: u32, span: u32) -> Result<(), Failed>
     requires range { base + span ≤ (F.seen flash.old).room }
     requires long { records_place ≤ span }
@@ -21,7 +21,7 @@ pub fn end<F: Flash>(flash: &mut F, base: u32, span: u32) -> Result<(), Failed>
     write_synced(flash, base, &[0])
 }
 
-/// The first step of a setup: no session lives. A gate that is closed is not written again, since a stop could leave it open.
+/// The first step of a setup: ends a session that is there. A closed gate is not written again, since a stop could leave it open.
 fn end_if<F: Flash>(flash: &mut F, base: u32, span: u32, lives: bool) -> Result<(), Failed>
     requires range { base + span ≤ (F.seen flash.old).room }
     requires long { records_place ≤ span }
@@ -61,8 +61,8 @@ fn open<F: Flash>(flash: &mut F, base: u32, span: u32) -> Result<(), Failed>
     write_synced(flash, base, &[OPEN])
 }
 
-/// Begins a session in the place of whatever lived (`lives` says whether one did): its header's gate is closed, all other
-/// gates are cleared and its body written, and its header's gate is opened.
+/// Begins a session instead of whatever was there (`lives` says whether there was a session): closes its header's gate, clears
+/// all other gates, writes its body, and opens its header's gate.
 pub fn begin<F: Flash>(
     flash: &mut F,
     base: u32,

@@ -1,4 +1,4 @@
-//! A flash that never fails, and of which no stop is told.
+//! A flash that never fails; what a stop leaves of it is not said.
 
 ghost use Rattle.std.specs.Prelude.{◌≡◌, ◌^◌, ◌<◌, length, IfOk, replicate};
 
@@ -22,7 +22,7 @@ impl Model for CellFlash {
 }
 
 impl CellFlash {
-    /// So many bytes, all 0.
+    /// Takes the memory of so many bytes, all 0.
     pub fn reserve(alloc: Global, size: u32) -> Result<Self, AllocError>
         ensures { IfOk result (λ f. f.bytes ≡ replicate size 0) }
     {
@@ -30,7 +30,7 @@ impl CellFlash {
         Ok(CellFlash { cells })
     }
 
-    /// Cells with these bytes, fewer than 2^32.
+    /// Takes memory for these bytes, fewer than 2^32, and has them.
     pub fn of_bytes(alloc: Global, bytes: &[u8]) -> Result<Self, AllocError>
         requires { length bytes.now < 2 ^ 32 }
         ensures { IfOk result (λ f. f.bytes ≡ bytes.now) }
@@ -39,7 +39,7 @@ impl CellFlash {
         Ok(CellFlash { cells })
     }
 
-    /// The bytes that it has now.
+    /// Returns its bytes.
     pub fn bytes(&self) -> &[u8]
         ensures { result.now ≡ self.now.bytes }
     {

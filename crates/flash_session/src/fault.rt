@@ -8,7 +8,7 @@ pub enum OpenFault {
     /// A call of the flash failed.
     #[error("a call of the flash failed")]
     Flash,
-    /// What lies at this place, counted from the range's first byte, is no session's; it is the lowest such place.
+    /// The bytes at this place, counted from the range's first byte, are no session's; it is the lowest such place.
     #[error("byte {0} of the range is no session's")]
     Foreign(u32),
 }

@@ -1,4 +1,4 @@
-//! What lies in a range, as it is found when it is opened.
+//! What is in a range when it is opened.
 
 ghost use Rattle.std.specs.Prelude.{◌≡◌, ℕ, ◌+◌, ◌*◌, ◌<◌, ◌≤◌, List, None, OnOk};
 ghost use Rattle.flash_session.specs.Contents.{byte_at};
@@ -21,14 +21,15 @@ use crate::reading::{Front, read_byte, read_front, read_setup};
 use crate::replaying::replay;
 use frag_session::{Limits, SetupReq, Slot};
 
-/// How many records and tallies lie there.
+/// How many records and tallies there are.
 #[derive(Clone, Copy)]
 pub struct Counts {
     pub records: u16,
     pub tallies: u16,
 }
 
-/// What lies in the `span` bytes from `base`, once it is synced: None without a session, and else the slot hears its records.
+/// Finds the session in the `span` bytes from `base`, once they are synced: None without a session; else the slot hears its
+/// records.
 pub fn find<F: Flash, const W: usize, const B: usize>(
     flash: &mut F,
     base: u32,
@@ -52,7 +53,7 @@ pub fn find<F: Flash, const W: usize, const B: usize>(
     }
 }
 
-/// What lies there, where it is synced.
+/// What is there, where it is synced.
 fn find_synced<F: Flash, const W: usize, const B: usize>(
     flash: &mut F,
     base: u32,
@@ -83,7 +84,7 @@ fn find_synced<F: Flash, const W: usize, const B: usize>(
     }
 }
 
-/// The session that lies after an open header's gate.
+/// The session after an open header's gate.
 fn find_behind<F: Flash, const W: usize, const B: usize>(
     flash: &mut F,
     base: u32,

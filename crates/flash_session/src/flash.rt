@@ -12,16 +12,17 @@ use thiserror::Error;
 #[error("a call of the flash failed")]
 pub struct Failed;
 
-/// Bytes by place. Between two syncs a stop may leave any bytes where something was written; after a sync it leaves what a
-/// read gives. What a flash does not tell of itself, no content has: then the clauses on it say nothing.
+/// Bytes by place. Between two syncs a stop may leave any bytes where something was written; after a sync it leaves what a read
+/// gives. Where a flash tells nothing, no content is held, and the clauses about contents say nothing.
 pub trait Flash {
-    /// What it tells of itself: what a read gives, what a stop may leave, and how often a call has failed.
+    /// What a flash tells: what a read gives, what a stop may leave, and how often a call has failed.
     ghost seen: { Self → FlashSeen };
 
-    /// What it tells of a call that takes so many steps, between what it was before and is after it: whether it failed.
+    /// What a flash tells of a call that takes so many steps, from what it was before to what it is after: whether the call
+    /// failed.
     ghost tells: { Self → Self → (steps : ℕ) → (failed : Bool) → Type 0 };
 
-    /// How many bytes it has; it never changes.
+    /// Returns how many bytes it has; this never changes.
     fn size(&self) -> u32
         ensures { result ≡ (seen self.now).room };
 
@@ -32,7 +33,7 @@ pub trait Flash {
             (seen self.new) result }
         ensures told { tells self.old self.new 0 (is_err result) };
 
-    /// Writes the piece from a place on. Until a sync, and after a failure, any bytes may stand there.
+    /// Writes the piece from a place on. Until a sync, and after a failure, any bytes may be there.
     fn write(&mut self, at: u32, piece: &[u8]) -> Result<(), Failed>
         requires { at + length piece.now ≤ (seen self.old).room }
         ensures written { OnOk result
@@ -41,7 +42,7 @@ pub trait Flash {
             (seen self.new) result }
         ensures told { tells self.old self.new (length piece.now) (is_err result) };
 
-    /// Writes `n` zeros from a place on. Until a sync, and after a failure, any bytes may stand there.
+    /// Writes `n` zeros from a place on. Until a sync, and after a failure, any bytes may be there.
     fn fill(&mut self, at: u32, n: u32) -> Result<(), Failed>
         requires { at + n ≤ (seen self.old).room }
         ensures written { OnOk result
@@ -49,7 +50,7 @@ pub trait Flash {
         ensures serves { FlashServes (SameOutside at n) (seen self.old) (seen self.new) result }
         ensures told { tells self.old self.new n (is_err result) };
 
-    /// After it, a stop leaves what a read gives.
+    /// Makes what a read gives outlast a stop.
     fn sync(&mut self) -> Result<(), Failed>
         ensures durable { OnOk result (IsKept (seen self.new)) }
         ensures serves { FlashServes Same (seen self.old) (seen self.new) result }

@@ -1,4 +1,4 @@
-//! A session held in flash: a slot in memory, and what lies of it in a range.
+//! A session held in flash: a slot in memory, and what is stored of it in a range.
 
 ghost use Rattle.std.specs.Prelude.{◌≡◌, ◌+◌, ◌≤◌, Option, IfSome, length, min, option_map};
 ghost use Rattle.frag_session.specs.Limits.{max_received};
@@ -18,7 +18,7 @@ use std::marker::Model;
 const MAX_RECEIVED: u16 = 16383;
 
 /// A session held in the `span` bytes from `base` of a flash, or a place for one there. Contracts see what it holds in memory,
-/// for which sessions it stands, and what lies in the range. `W` and `B` are those of its `Solver`.
+/// for which sessions it stands, and what is in the range. `W` and `B` are those of its `Solver`.
 pub struct Held<const W: usize, const B: usize> {
     slot: Slot<W, B>,
     limits: Limits,
@@ -71,7 +71,7 @@ impl<const W: usize, const B: usize> Drop for Held<W, B> {
 }
 
 impl<const W: usize, const B: usize> Held<W, B> {
-    /// Gives the memory back, for another opening. No flash is called.
+    /// Returns the memory, for another opening. No flash is called.
     pub fn close(self) -> Idle<W, B>
         ensures { result ≡ extent_of self.entry.slot }
     {
@@ -86,7 +86,7 @@ impl<const W: usize, const B: usize> Held<W, B> {
         slot.end()
     }
 
-    /// What the session shows, if there is one.
+    /// Returns what the session shows; None where there is none.
     pub fn view(&self) -> Option<View<'_>>
         ensures value { (o : Option Session) → HeldStandsAs self.now o → CountsAs self.now o
             → option_map seen result ≡ view_of o }
@@ -104,7 +104,7 @@ impl<const W: usize, const B: usize> Held<W, B> {
         }
     }
 
-    /// The answer to FragSessionStatusReq (TS004-1.0.0), as a slot gives it.
+    /// Answers a FragSessionStatusReq (TS004-1.0.0), as a slot does.
     pub fn status(&self, via: Via, all: bool) -> Option<StatusAns>
         ensures answer { (o : Option Session) → HeldStandsAs self.now o → CountsAs self.now o
             → result ≡ status_of o via all }

@@ -1,33 +1,33 @@
-//! Where the parts of a session lie in its range, counted from the range's first byte (this project's profile).
+//! The places of a session's parts in its range, counted from the range's first byte (this project's profile).
 
 ghost use Rattle.std.specs.Prelude.{◌≡◌, ◌+◌, ◌*◌, ◌≤◌};
 ghost use Rattle.frag_model.specs.Limits.{max_pieces};
 ghost use Rattle.flash_session.specs.Layout.{open_gate, body_place, body_size, gates_place, most_records};
 ghost use Rattle.flash_session.specs.Layout.{tallies_place, most_tallies, gates_size, records_place};
 
-/// A gate that is open; any other byte is a closed one. The header's gate is the first byte.
+/// A gate that is open; any other byte is a closed gate. The header's gate is the first byte.
 pub const OPEN: u8 = 0xa5;
 
-/// The body of the setup.
+/// Where the body of the setup begins.
 pub const BODY: u32 = 1;
 
-/// The gates of records.
+/// Where the gates of records begin.
 pub const RECORD_GATES: u32 = 64;
 
-/// The gates of fragments that are counted alone.
+/// Where the gates of fragments that are only counted begin.
 pub const TALLY_GATES: u32 = 8257;
 
-/// How many of them.
+/// How many of these gates there are.
 pub const MAX_TALLIES: u16 = 16_383;
 
-/// The records.
+/// Where the records begin.
 pub const RECORDS: u32 = 24_640;
 
-/// The gates of records and of tallies.
+/// How many bytes the gates of records and of tallies have.
 pub const GATES: u32 = RECORDS - RECORD_GATES;
 
-/// The numbers of the code are those of the definitions. There are gates for the records of the most pieces, and each part
-/// ends where the next one begins, or before.
+/// The numbers of the code are those of the definitions. There are gates for the records of the most pieces, and each part ends
+/// no later than the next one begins.
 pub fn parts_lie_side_by_side()
     ensures gate { OPEN ≡ open_gate }
     ensures places { (BODY ≡ body_place) × (RECORD_GATES ≡ gates_place)

@@ -1,11 +1,11 @@
-//! Sessions of fragments held in flash (this project's profile): a flash as a trait, which tells what it holds and what a stop
-//! may leave, three flashes in memory, and a session that lies in a range of one. Whatever call is stopped, opening the range
-//! again gives a session that stands for what was acknowledged, or for that and the fragment of the call that was stopped.
-//! Where sessions lie, and what becomes of a whole file, is left to the device above.
+//! Sessions of fragments held in flash (this project's profile): a flash as a trait, three flashes in memory, and a session in a
+//! range of one. The trait's members say what a flash holds and what a stop may leave. Whatever call is stopped, opening the
+//! range again gives a session that stands for what was acknowledged, or for that and the fragment of the stopped call. Where
+//! sessions are in a flash, and what happens to a whole file, is left to the device above.
 //!
 //!     let idle = Idle::new(Solver::reserve(alloc, 256 * 48)?); // all memory; `flash` is a `Flash`
 //!     let held = match Held::open(&mut flash, 0, span, idle, limits) {
-//!         Ok(held) => held,                                    // with the session that lies there, or with none
+//!         Ok(held) => held,                                    // with the session that is stored there, or with none
 //!         Err((idle, fault)) => return Err(fault),             // the flash failed, or a place is foreign
 //!     };
 //!     match held.hear(&mut flash, Via::Unicast, n, part, mark) {

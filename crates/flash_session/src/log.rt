@@ -7,7 +7,7 @@ ghost use Rattle.flash_session.specs.Moments.{Elapses};
 ghost use Rattle.flash_session.specs.Log.{LeftSince, seen_in};
 ghost use Rattle.flash_session.specs.HeldLog.{HasTaken};
 
-/// One step: a byte was overwritten, at this place, and it was this; or all that was written was synced.
+/// One step: the byte at this place, which had this value, was overwritten; or all that was written was synced.
 #[derive(Clone, Copy)]
 pub enum Step {
     Was(u32, u8),

@@ -8,8 +8,8 @@ use crate::schedule::Schedule;
 use std::alloc::{AllocError, Global};
 use std::marker::Model;
 
-/// Bytes in memory with a log of what was done to them. A call fails exactly where its number is listed, or the log has no
-/// room for it: a byte that is written takes one step of it, and a sync one.
+/// Bytes in memory with a log of what was done to them. A call fails exactly where its number is listed, or the log has no room
+/// for it: each byte that is written takes one step of the log, and so does a sync.
 #[derive(Drop)]
 pub struct MemFlash {
     pub(crate) bytes: Vec<u8>,
@@ -42,7 +42,8 @@ impl Model for MemFlash {
 }
 
 impl MemFlash {
-    /// So many bytes, all 0, with room for so many steps, and the numbers of the calls that fail, counted from 1.
+    /// Takes the memory of so many bytes, all 0, with room for so many steps; `fails` has the numbers of the calls that fail,
+    /// from 1 on.
     pub fn reserve(alloc: Global, size: u32, room: u32, fails: Vec<u64>) -> Result<Self, AllocError>
         ensures bytes { IfOk result (λ f. f.bytes ≡ replicate size 0) }
         ensures log { IfOk result (λ f. f.log ≡ []) }

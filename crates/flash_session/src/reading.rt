@@ -17,7 +17,7 @@ use memchr::memchr;
 /// How many gates are read at a time: a call over a bus costs far more than a byte of its answer.
 const STRETCH: usize = 64;
 
-/// The byte at a place.
+/// Reads the byte at a place.
 pub fn read_byte<F: Flash>(flash: &mut F, at: u32) -> Result<u8, Failed>
     requires { at < (F.seen flash.old).room }
     ensures reads { FlashReads (λ x holds. (b : List ℕ) → holds b → byte_at b at ≡ x)
@@ -28,7 +28,7 @@ pub fn read_byte<F: Flash>(flash: &mut F, at: u32) -> Result<u8, Failed>
     Ok(buf[0])
 }
 
-/// A record that lies at a place: its number and its mark. `part` takes its data.
+/// Reads the record at a place: its number and its mark. `part` takes its data.
 pub fn read_record<F: Flash>(flash: &mut F, at: u32, part: &mut [u8]) -> Result<(u16, u64), Failed>
     requires { at + 10 + length part.old ≤ (F.seen flash.old).room }
     ensures reads { FlashReads
@@ -42,7 +42,7 @@ pub fn read_record<F: Flash>(flash: &mut F, at: u32, part: &mut [u8]) -> Result<
     Ok(head_of(head))
 }
 
-/// The setup that lies at a place.
+/// Reads the setup at a place.
 pub fn read_setup<F: Flash>(flash: &mut F, at: u32) -> Result<SetupReq, Failed>
     requires { at + 10 ≤ (F.seen flash.old).room }
     ensures reads { FlashReads
@@ -55,7 +55,7 @@ pub fn read_setup<F: Flash>(flash: &mut F, at: u32) -> Result<SetupReq, Failed>
     Ok(setup_in(body))
 }
 
-/// What a setup's body is read as; reserved bits are ignored.
+/// The setup that a body is read as; reserved bits are ignored.
 #[tactic(auto, unfolding(crate::specs::Body::setup_from))]
 fn setup_in(body: [u8; 10]) -> SetupReq
     ensures { result ≡ setup_in body }
@@ -76,14 +76,14 @@ fn setup_in(body: [u8; 10]) -> SetupReq
     }
 }
 
-/// What gates are like: the first so many are open and no other, or this one is open after one that is closed.
+/// How gates are: exactly the first so many are open, or this one is open after one that is closed.
 #[derive(Clone, Copy)]
 pub enum Front {
     Whole(u16),
     Stray(u16),
 }
 
-/// What the gates from a place on are like.
+/// Reads how the gates from a place on are.
 pub fn read_front<F: Flash>(flash: &mut F, at: u32, most: u16) -> Result<Front, Failed>
     requires { at + most ≤ (F.seen flash.old).room }
     ensures reads { FlashReads (λ front holds. IsFront holds at most front) (F.seen flash.old)
@@ -107,7 +107,7 @@ pub fn read_front<F: Flash>(flash: &mut F, at: u32, most: u16) -> Result<Front, 
     Ok(Front::Whole(opened as u16))
 }
 
-/// How many gates are open before the first one that is not: none, where one before these is closed.
+/// How many gates are open before the first closed one: none, where one before these is closed.
 fn leading_open(gates: &[u8], unbroken: bool) -> usize
     ensures few { result ≤ length gates.now }
     ensures opened { (k : ℕ) → k < result → slice_index gates.now k ≡ open_gate }

@@ -14,7 +14,7 @@ use crate::layout::RECORDS;
 use crate::reading::read_record;
 use frag_session::{Heard, News, Slot, Via};
 
-/// Hears the first `records` records of a session again. Answers the first of them that is dropped or tells nothing new.
+/// Hears the first `records` records of a session again. Returns the first of them that is dropped or not new.
 pub fn replay<F: Flash, const W: usize, const B: usize>(
     flash: &mut F,
     base: u32,
@@ -38,7 +38,7 @@ pub fn replay<F: Flash, const W: usize, const B: usize>(
     Ok(None)
 }
 
-/// Hears record `k` again, and says whether it told something new.
+/// Hears record `k` again, and says whether it was new.
 fn replay_one<F: Flash, const W: usize, const B: usize>(
     flash: &mut F,
     base: u32,
@@ -61,7 +61,7 @@ fn replay_one<F: Flash, const W: usize, const B: usize>(
     Ok(is_new(heard))
 }
 
-/// Whether a fragment was heard and told something new.
+/// Says whether a fragment was heard and new.
 fn is_new(heard: Heard) -> bool
     ensures yes { result ≡ true → heard ≡ Heard.Fed News.New }
     ensures no { result ≡ false → heard ≢ Heard.Fed News.New }

@@ -29,7 +29,7 @@ impl Model for StopFlash {
 }
 
 impl StopFlash {
-    /// A flash that passes the first `k` calls on, and fails each after them.
+    /// Makes a flash that passes the first `k` calls on, and fails each call after them.
     pub fn over(flash: MemFlash, k: u64) -> Self
         ensures { result ≡ record { flash = flash; left = k; failed = 0 } }
     {
@@ -40,7 +40,7 @@ impl StopFlash {
         }
     }
 
-    /// The flash inside.
+    /// Returns the flash inside.
     pub fn inner(self) -> MemFlash
         ensures { result ≡ self.flash }
     {

@@ -50,7 +50,7 @@ pub fn store<F: Flash>(
     write_synced(flash, gate, &[OPEN])
 }
 
-/// Counts a fragment alone: opens count gate `n`.
+/// Counts a fragment that is only counted: opens count gate `n`.
 pub fn count_gate<F: Flash>(flash: &mut F, base: u32, span: u32, n: u16) -> Result<(), Failed>
     requires range { base + span ≤ (F.seen flash.old).room }
     requires long { records_place ≤ span }

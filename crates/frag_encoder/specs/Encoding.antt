@@ -38,7 +38,7 @@ pub record Encoding : Type 0 where
   pub file : List ℕ
   pub frag_size : ℕ
 
--- no file of this length is encoded in pieces of this size (1 to 239 bytes fit a payload; 4,096 pieces are this project's profile)
+-- no file of this length is encoded in pieces of this size (1 to 239 bytes fit a payload; 4,096 pieces: this project's profile)
 abbrev pub IsBadSize : ℕ → ℕ → Type 0
 IsBadSize len frag_size = (len ≡ 0) ⊎ (frag_size ≡ 0) ⊎ (max_frag_size < frag_size) ⊎ (max_pieces < nb_frag_of len frag_size)
 

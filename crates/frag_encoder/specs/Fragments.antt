@@ -5,7 +5,7 @@ use Rattle.frag_model.specs.Fragments.{draws_of, line_of, pieces_at, xor_all}
 use Rattle.frag_model.specs.Limits.{max_frag_size, max_parity_index, max_pieces}
 use Rattle.frag_encoder.specs.Encoding.{nb_frag_of, filled, pieces_of, data_of, sums_of}
 
--- fragment n of a file was asked for, and what was held before gave way to its bytes
+-- fragment n of a file was asked for, and its bytes replaced what was held before
 pub record GivesFragment {E : Type 0} (file : List ℕ) (frag_size n : ℕ) (old new : Items ℕ) (result : Result (Unit {0}) E) : Type 0 where
   -- Ok comes exactly for the numbers that fragments have
   pub within : IsOk result ↔ ((1 ≤ n) × (n ≤ nb_frag_of (length file) frag_size + max_parity_index))

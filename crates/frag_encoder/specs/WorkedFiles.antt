@@ -29,7 +29,7 @@ pub record WorkedFiles : Type 0 where
   pub no_sum : sums_of 4 4 ≡ 0
   pub sum_of_two : sums_of 4 5 ≡ 2
 
--- the files and sizes that are not encoded, and those beside them
+-- the files and sizes that are not encoded, and those next to them
 pub record WorkedSizes : Type 0 where
   pub no_file : IsBadSize 0 13
   pub no_bytes : IsBadSize 7 0

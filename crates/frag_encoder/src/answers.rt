@@ -1,4 +1,4 @@
-//! What an encoder answers where it can't do what is asked.
+//! Why an encoder can't do what it is asked.
 
 use thiserror::Error;
 

@@ -14,10 +14,10 @@ use std::alloc::{AllocError, Global};
 use std::marker::{Brand, Model};
 use std::sync::ledger::{Blank, Ledger};
 
-/// The most bytes of a fragment that a payload has room for (TS004-1.0.0).
+/// The most bytes of a fragment that fits a payload (TS004-1.0.0, DataFragment).
 pub const MAX_FRAGMENT: usize = 239;
 
-/// A file in pieces of one size, from which each of its fragments is made. It keeps a copy of the file.
+/// A file in pieces of one size, and each of its fragments (TS004-1.0.0). It keeps a copy of the file.
 #[derive(Drop)]
 pub struct Encoder {
     bytes: Vec<u8>,
@@ -38,8 +38,8 @@ impl Model for Encoder {
 }
 
 impl Encoder {
-    /// An encoder of the file in pieces of `frag_size` bytes. `BadSize` comes exactly where the file is empty, `frag_size` is 0
-    /// or above 239, or there are more than 4,096 pieces.
+    /// Makes an encoder of the file in pieces of `frag_size` bytes. `BadSize` comes exactly where the file is empty, `frag_size`
+    /// is 0 or above 239, or there are more than 4,096 pieces; `Memory` where there is no memory for the copy.
     pub fn new(alloc: Global, file: &[u8], frag_size: u8) -> Result<Encoder, EncoderError>
         ensures ok { IfOk result (λ e. e ≡ record { file = file.now; frag_size = frag_size }) }
         ensures bad_size { (result ≡ Err EncoderError.BadSize)
@@ -65,7 +65,7 @@ impl Encoder {
         }
     }
 
-    /// The file.
+    /// Returns the file.
     pub fn file(&self) -> &[u8]
         ensures { result.now ≡ self.now.file }
     {
@@ -73,7 +73,7 @@ impl Encoder {
         &self.bytes[..end]
     }
 
-    /// How many pieces the file has, 1 to 4,096: its length over a piece's, rounded up.
+    /// Returns how many pieces the file has, NbFrag, 1 to 4,096: its length over a piece's, rounded up.
     pub fn nb_frag(&self) -> u16
         ensures value { result ≡ nb_frag_of (length self.now.file) self.now.frag_size }
         ensures some { 1 ≤ result }
@@ -82,7 +82,7 @@ impl Encoder {
         self.nb_frag
     }
 
-    /// How many zero bytes fill the last piece up, fewer than a piece has.
+    /// Returns how many zero bytes fill the last piece up, fewer than a piece has.
     pub fn padding(&self) -> u8
         ensures value { result ≡ padding_of (length self.now.file) self.now.frag_size }
         ensures short { result < self.now.frag_size }
@@ -90,9 +90,9 @@ impl Encoder {
         self.padding
     }
 
-    /// Replaces what `out` holds by the data of fragment `n`: piece `n`, counted from 1, and after the last piece the XOR of
-    /// the pieces in the line of coded fragment `n` (TS004-1.0.0). `Beyond`, with `out` as it was, comes exactly where `n` is 0
-    /// or more than 8,380 above the number of pieces.
+    /// Replaces what `out` holds by the data of fragment `n`: piece `n`, counted from 1, and after the last piece the XOR of the
+    /// pieces in the line of coded fragment `n` (TS004-1.0.0). `Beyond`, with `out` as it was, comes exactly where `n` is 0 or
+    /// more than 8,380 above the number of pieces. It takes no memory.
     pub fn fragment(&self, n: u16, out: &mut ArrayVec<u8, MAX_FRAGMENT>) -> Result<(), Beyond>
         ensures { GivesFragment self.now.file self.now.frag_size n out.old out.new result }
     {
@@ -115,8 +115,8 @@ impl Encoder {
         self.fragment_counted(n, out, &mut draws, &mut sums)
     }
 
-    /// As `fragment`, and counts its work: the states of the register that are drawn for the fragment's line, and the pieces
-    /// that are summed, each the XOR of its bytes into the fragment's. `Beyond` costs none.
+    /// Makes a fragment, as `fragment` does, and counts its work: the states of the register that are drawn for the fragment's
+    /// line, and the pieces that are summed, each the XOR of its bytes into the fragment's. `Beyond` costs none.
     pub fn fragment_counted<L: Ledger, M: Ledger>(
         &self,
         n: u16,
@@ -145,7 +145,7 @@ impl Encoder {
     }
 }
 
-/// The file, and so many zeros after it.
+/// Copies the file, and so many zeros after it.
 fn fill(alloc: Global, file: &[u8], padding: usize) -> Result<Vec<u8>, AllocError>
     requires { length file.now + padding < 2 ^ 63 }
     ensures { IfOk result (λ bytes. bytes.items ≡ file.now ++ replicate padding 0) }

@@ -1,10 +1,10 @@
-//! Laws about the definitions, each the contract of a function that does nothing.
+//! Laws about the definitions, each the contract of a function with an empty body.
 
 ghost use Rattle.frag_encoder.specs.Laws.{FragmentsAreTheFiles};
 ghost use Rattle.frag_encoder.specs.WorkedFiles.{WorkedFiles, WorkedSizes};
 
-/// The fragments of a file are those of one block, so that the block fits whatever is heard of them, and what is recovered
-/// from the block is the file.
+/// The fragments of a file are those of one block: the block fits whatever is heard of them, and what is recovered from it is the
+/// file.
 pub fn fragments_are_the_files()
     ensures { FragmentsAreTheFiles }
 {}

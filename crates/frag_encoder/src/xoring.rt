@@ -71,7 +71,7 @@ fn pieces_from(bytes: &[u8], size: usize, column: usize) -> &[u8]
     &bytes[column * size..]
 }
 
-/// The piece of a column, counted from 0.
+/// Returns the piece of a column, counted from 0.
 pub fn piece_at(bytes: &[u8], size: usize, column: usize) -> &[u8]
     requires { (column + 1) * size ≤ length bytes.now }
     ensures piece { result.now ≡ take size (drop (column * size) bytes.now) }

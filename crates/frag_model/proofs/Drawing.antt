@@ -77,7 +77,7 @@ place_of_none : (cols k : ℕ) (xs : List ℕ) → k ≡ 0 → place_of cols k x
 unfolding place_of
 place_of_none cols k xs e = ap (λ i. place_of cols i xs) e
 
--- where no column is wanted any more, the states that are left add nothing
+-- where no column is needed any more, the states that are left add nothing
 pub drawing_stops : (n cols count x found drawn : ℕ) (out : List Bool) → cols / 2 ≤ found → Drawing n cols (suc count) x found drawn out → Drawing n cols count x found drawn out
 drawing_stops n cols count x found drawn out full h =
     let k : ℕ = cols / 2 - found in

@@ -1,4 +1,4 @@
--- One block alone fits exactly where one file alone fits.
+-- Only one block fits exactly where only one file fits.
 use Rattle.std.proofs.Common.{◌≡◌, ℕ, zero, suc, ◌+◌, ◌-◌, ◌*◌, ◌<◌, ◌≤◌, ◌/◌, ◌%◌, ◌^◌, true, false, cond, ◌==◌, List, [], ◌∷◌, ◌++◌, length, get_or, take, drop, set, bit_xor, refl, sym, ap, ap₂, ◌∙◌, arith, length-append, length-drop, length-set, get_or-set_same, get_or-set_other, suc-mul, zero-mul, suc-ne-zero}
 use Rattle.std.proofs.lemmas.List.{ext_get_or, take-append-drop, get_or-take, drop_at, take_at}
 use Rattle.std.proofs.Math.ListN.{get_or-append}
@@ -150,7 +150,7 @@ SameAt j [] cs = Unit {0}
 SameAt j (b ∷ bs) [] = Unit {0}
 SameAt j (b ∷ bs) (c ∷ cs) = (get_or b j 0 ≡ get_or c j 0) × SameAt j bs cs
 
--- where the file doesn't change by the mixing, the blocks agree there: each piece's first byte lies in the file
+-- where the file doesn't change by the mixing, the blocks agree there: each piece's first byte is in the file
 same_at : (size j : ℕ) (bs cs : List (List ℕ)) → j < size → AllByRecursion (IsPiece size) bs → AllByRecursion (IsPiece size) cs → length bs ≡ length cs
     → (n : ℕ) → length bs * size < n + size → take n (concat (mixed j bs cs)) ≡ take n (concat bs) → SameAt j bs cs
 unfolding SameAt mixed mixed_piece

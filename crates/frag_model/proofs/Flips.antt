@@ -265,7 +265,7 @@ another_fits shape heard b numbered pos fb few =
           (omega (arith, f.1, fb.shaped.counted)) (drawn-free f.0 t.0 f.2),
     )
 
--- ---- where one block alone fits, gain is full
+-- ---- where only one block fits, gain is full
 
 pub full_gain : (shape : Shape) (heard : List Fragment) (b : List (List ℕ)) → AreNumbered heard → 0 < shape.frag_size → OneBlockFits shape heard b → gain shape heard ≡ shape.nb_frag
 full_gain shape heard b numbered pos h = elim (cases_lt (gain shape heard) shape.nb_frag) [

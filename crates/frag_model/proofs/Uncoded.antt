@@ -1,4 +1,4 @@
--- Uncoded fragments alone: each tells one piece, and gains where that piece is new.
+-- Only uncoded fragments: each gives one piece, and gains where that piece is new.
 use Rattle.std.proofs.Common.{◌≡◌, ◌≢◌, ◌⊎◌, ℕ, zero, suc, ◌+◌, ◌-◌, ◌*◌, ◌<◌, ◌≤◌, ◌/◌, ◌%◌, ◌^◌, Bool, true, false, cond, ◌&&◌, not, ◌==◌, nat_le, List, [], ◌∷◌, map, length, get_or, replicate, bit_xor, refl, sym, ap, ap₂, ◌∙◌, subst, inl, inr, arith, true≢false, eq-eqb, ne_eqb, le-leb, pow-suc}
 use Rattle.std.specs.Prelude.{if◌then◌else◌}
 use Rattle.std.specs.List.{list_any, AllByRecursion}
@@ -206,7 +206,7 @@ xor_bytes_zeros [] (suc n) e = absurd (omega arith)
 xor_bytes_zeros (x ∷ p) zero e = absurd (omega arith)
 xor_bytes_zeros (x ∷ p) (suc n) e = ap₂ (λ a b. a ∷ b) (xor_zero_r x) (xor_bytes_zeros p n (omega arith))
 
--- the XOR at one column alone is the piece there
+-- the XOR at only one column is the piece there
 pub xor_all_piece : (size k line : ℕ) (block : List (List ℕ)) → line ≡ 2 ^ k → k < length block → AllByRecursion (IsPiece size) block → xor_all size (pieces_at line block) ≡ get_or block k []
 unfolding xor_all pieces_at
 xor_all_piece size k line [] e lt h = absurd (omega arith)

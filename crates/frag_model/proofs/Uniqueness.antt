@@ -1,4 +1,4 @@
--- Where some block fits, one alone does exactly at full gain.
+-- Where some block fits, only one does exactly at full gain.
 use Rattle.std.proofs.Common.{◌≡◌, ◌≢◌, ℕ, ◌+◌, ◌<◌, ◌≤◌, ◌/◌, ◌%◌, ◌^◌, Bool, true, false, cond, not, ◌==◌, List, [], ◌∷◌, map, length, get_or, bit_xor, refl, sym, ap, ap₂, ◌∙◌, subst, inl, inr, arith, eq-eqb, ne_eqb}
 use Rattle.std.specs.List.{AllByRecursion}
 use Rattle.std.specs.Int.{bit_at}
@@ -76,7 +76,7 @@ same_at_sums i x b c (l ∷ ls) h (inr k) =
 
 -- ---- at full gain
 
--- a row of a full table has its own column alone
+-- a row of a full table has only its own column
 full_row : (cols : ℕ) (rows : List Row) (r : Row) → Table cols rows → ((k : ℕ) → k < cols → In k (pivots_of rows)) → In r rows → r.line ≡ 2 ^ r.pivot
 full_row cols rows r t all m =
     let k : IsRow cols r = row_of cols rows r t m in

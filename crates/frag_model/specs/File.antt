@@ -1,4 +1,4 @@
--- Which files fit what was heard: the view of one who knows the padding, and nothing of blocks.
+-- Which files fit what was heard: the view of someone who knows the padding, and nothing of blocks.
 use Rattle.std.specs.Prelude.{◌≡◌, ℕ, List, ◌++◌, length}
 use Rattle.std.specs.List.{concat}
 use Rattle.frag_model.specs.Fragments.{Fragment, Shape}

@@ -1,4 +1,4 @@
--- Laws about the definitions alone. Functions with an empty body have them as their contracts.
+-- Laws about the definitions. Functions with an empty body have them as their contracts.
 use Rattle.std.specs.Prelude.{◌≡◌, ◌↔◌, ℕ, ◌+◌, ◌*◌, ◌/◌, ◌%◌, ◌<◌, ◌≤◌, List, [], ◌∷◌, ◌++◌, length, take}
 use Rattle.std.specs.List.{AllByRecursion}
 use Rattle.frag_model.specs.Parity.{prbs23, modulus, residues, columns_drawn, line, draws}
@@ -15,7 +15,7 @@ pub record ExactlyOneVerdict : Type 0 where
   -- and where the first one stays
   pub first : (shape : Shape) (heard : List Fragment) (v : Verdict) → IsVerdict shape heard v ↔ (v ≡ verdict shape heard)
 
--- where the padding is shorter than a piece, one block alone fits exactly where one file alone fits
+-- where the padding is shorter than a piece, only one block fits exactly where only one file fits
 pub record OneBlockIsOneFile : Type 0 where
   -- the block's file is then the one
   pub file : (shape : Shape) (padding : ℕ) (heard : List Fragment) (block : List (List ℕ)) → 0 < shape.nb_frag → padding < shape.frag_size
@@ -28,7 +28,7 @@ pub record OneBlockIsOneFile : Type 0 where
 abbrev pub AreNumbered : List Fragment → Type 0
 AreNumbered heard = AllByRecursion (λ (f : Fragment). 1 ≤ f.number) heard
 
--- where some block fits, gain is full exactly where one block alone fits
+-- where some block fits, gain is full exactly where only one block fits
 pub record FullGainIsUniqueness : Type 0 where
   pub unique : (shape : Shape) (heard : List Fragment) (block : List (List ℕ)) → AreNumbered heard
       → gain shape heard ≡ shape.nb_frag → FittingBlock shape heard block → OneBlockFits shape heard block
@@ -40,7 +40,7 @@ pub record GainIsBounded : Type 0 where
   pub most : (shape : Shape) (heard : List Fragment) → AreNumbered heard → gain shape heard ≤ shape.nb_frag
   pub least : (shape : Shape) (heard : List Fragment) → AreNumbered heard → direct shape heard ≤ gain shape heard
 
--- where at most as many pieces as there are rows had not come uncoded before the first coded fragment, the excess never passes the rows
+-- where at most as many pieces as rows had not come uncoded before the first coded fragment, the excess never passes the rows
 pub record EnoughRowsForTheUnheard : Type 0 where
   -- before it there is none
   pub before : (shape : Shape) (heard : List Fragment) → AllByRecursion (IsUncoded shape) heard → excess shape heard ≡ 0

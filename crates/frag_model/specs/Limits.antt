@@ -5,7 +5,7 @@ use Rattle.std.specs.Prelude.{ℕ}
 abbrev pub max_pieces : ℕ
 max_pieces = 4096
 
--- bytes of a fragment: a payload of 242 but for the three bytes before them
+-- bytes of a fragment: a payload of 242 without the three bytes before them
 abbrev pub max_frag_size : ℕ
 max_frag_size = 239
 

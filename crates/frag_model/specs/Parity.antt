@@ -38,7 +38,7 @@ line_with (c ∷ cs) = bit_or (2 ^ c) (line_with cs)
 unfoldable pub line : ℕ → ℕ → ℕ
 line n cols = line_with (columns_drawn n cols)
 
--- the place, counted from 1, of the wanted-th member below the bound; 0 for none wanted
+-- the place, counted from 1, of the last of so many members below the bound; 0 for none
 unfoldable pub place_of : ℕ → ℕ → List ℕ → ℕ
 place_of bound zero rs = 0
 place_of bound (suc wanted) [] = 0

@@ -1,4 +1,5 @@
--- The verdict over a list of heard fragments, newest first. (TS004-1.0.0 leaves recovery to the device; when it ends, and how, is this project's profile.)
+-- The verdict over a list of heard fragments, newest first. (TS004-1.0.0 leaves recovery to the device; when it ends, and how, is
+-- this project's profile.)
 use Rattle.std.specs.Prelude.{◌≡◌, ◌≢◌, ◌⊎◌, ℕ, zero, suc, ◌-◌, ◌<◌, ◌≤◌, Bool, nat_lt, List, [], ◌∷◌, map, filter, flat_map, bytes_eq, if◌then◌else◌}
 use Rattle.std.specs.List.{list_all, range_with_len}
 use lib.Pointwise.{pointwise}
@@ -9,7 +10,7 @@ use Rattle.frag_model.specs.Gain.{gain, excess}
 pub data Verdict : Type 0 where
   -- none of the others yet
   receiving : Verdict
-  -- from the fragment with this mark on, this block alone fits
+  -- from the fragment with this mark on, only this block fits
   complete : ℕ → List (List ℕ) → Verdict
   -- the fragment with this mark made one independent coded fragment more than there are rows
   no_rows : ℕ → Verdict
@@ -55,7 +56,7 @@ verdict shape (f ∷ older) = first_verdict (verdict shape older) (verdict_now s
 unfoldable pub lacking : Shape → List Fragment → ℕ
 lacking shape heard = shape.nb_frag - gain shape heard
 
--- what is missing where this verdict comes now: nothing at a whole file, and where the fragment decided against it what was missing before
+-- what is missing where this verdict comes now: nothing at a whole file; at one against it, what was missing before
 unfoldable pub missing_now : Verdict → ℕ → ℕ → ℕ
 missing_now receiving now before = now
 missing_now (complete mark block) now before = 0

@@ -9,10 +9,10 @@ ghost use Rattle.frag_model.specs.Gain.{is_sum, gain_of_lines, gain_of, direct_o
 use crate::lines::{MAX_PARITY_INDEX, plain_line};
 use std::alloc::{AllocError, Global};
 
-/// The most columns of a line that is kept in one word.
+/// The most columns of a line that fits one word.
 pub const WORD_COLUMNS: u16 = 64;
 
-/// Whether `x` is the XOR of some of the lines, or of none.
+/// Says whether `x` is the XOR of some of the lines, or of none.
 pub fn plain_is_sum(x: u64, lines: &[u64]) -> bool
     ensures { result ≡ is_sum x lines.now }
 {
@@ -24,7 +24,7 @@ pub fn plain_is_sum(x: u64, lines: &[u64]) -> bool
     }
 }
 
-/// How many lines are no sum of those after them.
+/// Counts the lines that are no sum of those after them.
 pub fn plain_gain(lines: &[u64]) -> usize
     ensures value { result ≡ gain_of_lines lines.now }
     ensures most { result ≤ length lines.now }
@@ -37,7 +37,7 @@ pub fn plain_gain(lines: &[u64]) -> usize
     }
 }
 
-/// How many different pieces are among the numbers.
+/// Counts the different pieces among the numbers.
 pub fn plain_direct(nb_frag: u16, numbers: &[u16]) -> usize
     ensures value { result ≡ direct_of nb_frag numbers.now }
     ensures most { result ≤ length numbers.now }
@@ -70,7 +70,7 @@ fn one_if(test: bool) -> usize
     if test { 1 } else { 0 }
 }
 
-/// The line that is given column by column.
+/// Makes the word of a line that is given column by column.
 pub fn plain_word(columns: &[bool]) -> u64
     requires { length columns.now ≤ WORD_COLUMNS }
     ensures { result ≡ number_of columns.now }
@@ -84,7 +84,7 @@ pub fn plain_word(columns: &[bool]) -> u64
     word
 }
 
-/// The line of fragment `n` of `nb_frag` pieces.
+/// Makes the line of fragment `n` of `nb_frag` pieces (TS004-1.0.0, DataFragment).
 pub fn plain_line_of(nb_frag: u16, n: u16) -> u64
     requires some { 1 ≤ nb_frag }
     requires most { nb_frag ≤ WORD_COLUMNS }
@@ -102,7 +102,7 @@ pub fn plain_line_of(nb_frag: u16, n: u16) -> u64
     }
 }
 
-/// How many independent coded fragments must be kept, of fragments with these numbers, newest first.
+/// Counts the independent coded fragments that must be kept, of fragments with these numbers, newest first.
 pub fn plain_excess(alloc: Global, nb_frag: u16, numbers: &[u16]) -> Result<usize, AllocError>
     requires some { 1 ≤ nb_frag }
     requires most { nb_frag ≤ WORD_COLUMNS }

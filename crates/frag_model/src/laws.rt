@@ -1,19 +1,19 @@
-//! Laws about the definitions, each the contract of a function that does nothing.
+//! Laws about the definitions, each the contract of a function with an empty body.
 
 ghost use Rattle.frag_model.specs.NewsLaw.{OldFragmentsAddNothing};
 ghost use Rattle.frag_model.specs.Laws.{ExactlyOneVerdict, OneBlockIsOneFile, FullGainIsUniqueness, GainIsBounded, EnoughRowsForTheUnheard, EveryLineHasEnoughDraws, WorkedValues};
 
-/// Of each list of heard fragments exactly one verdict is right: the one that `verdict` gives.
+/// For each list of heard fragments exactly one verdict is right: the one that `verdict` gives.
 pub fn exactly_one_verdict()
     ensures { ExactlyOneVerdict }
 {}
 
-/// Where the padding is shorter than a piece, one block alone fits exactly where one file alone fits.
+/// Where the padding is shorter than a piece, only one block fits exactly where only one file fits.
 pub fn one_block_is_one_file()
     ensures { OneBlockIsOneFile }
 {}
 
-/// Where some block fits, gain is full exactly where one block alone fits.
+/// Where some block fits, gain is full exactly where only one block fits.
 pub fn full_gain_is_uniqueness()
     ensures { FullGainIsUniqueness }
 {}
@@ -23,7 +23,7 @@ pub fn gain_is_bounded()
     ensures { GainIsBounded }
 {}
 
-/// As many rows as there are pieces unheard at the first coded fragment are enough.
+/// As many rows as there are pieces not yet heard at the first coded fragment are enough.
 pub fn enough_rows_for_the_unheard()
     ensures { EnoughRowsForTheUnheard }
 {}

@@ -3,14 +3,14 @@
 ghost use Rattle.std.specs.Prelude.{◌≡◌, ◌+◌, ◌<◌, ◌≤◌, ◌^◌, length};
 ghost use Rattle.frag_model.specs.Parity.{prbs23, modulus, line, draws, number_of};
 
-/// The largest number of a coded fragment over `cols` columns is this much above `cols` (TS004-1.0.0 has
-/// 14 bits for it; up to here the first state fits the register).
+/// The largest number of a coded fragment is this much above the number of columns (TS004-1.0.0 has 14 bits for it; up to here
+/// the first state fits the register).
 pub const MAX_PARITY_INDEX: u16 = 8380;
 
 /// The most pieces of a file (this project's profile).
 pub const MAX_PIECES: u16 = 4096;
 
-/// The next state of the 23-bit register after `x` (TS004-1.0.0).
+/// Returns the next state of the 23-bit register (PRBS23, TS004-1.0.0) after `x`.
 pub fn plain_prbs23(x: u32) -> u32
     requires { x < 2 ^ 23 }
     ensures { result ≡ prbs23 x }
@@ -18,7 +18,7 @@ pub fn plain_prbs23(x: u32) -> u32
     (x >> 1) + (((x & 1) ^ (x >> 5 & 1)) << 22)
 }
 
-/// What states are divided by: `cols`, and one more where `cols` is a power of two.
+/// Returns what states are divided by: `cols`, and one more where `cols` is a power of two.
 pub fn plain_modulus(cols: u16) -> u16
     requires { cols ≤ MAX_PIECES }
     ensures value { result ≡ modulus cols }
@@ -32,7 +32,7 @@ pub fn plain_modulus(cols: u16) -> u16
     }
 }
 
-/// Marks the columns of coded fragment `n` over `cols` columns, and answers how many states were drawn.
+/// Marks the columns of coded fragment `n` over `cols` columns (TS004-1.0.0), and returns how many states were drawn.
 pub fn plain_line(n: u16, cols: u16, out: &mut [bool]) -> u16
     requires first { 1 ≤ n }
     requires last { n ≤ MAX_PARITY_INDEX }

@@ -179,7 +179,7 @@ shown_receiving (complete at block) is = absurd cc
 shown_receiving (no_rows at) is = absurd cc
 shown_receiving (conflict at) is = absurd cc
 
--- the block of a file that alone fits
+-- the block of the only file that fits
 whole_verdict : (shape : Shape) (padding : ℕ) (heard : List Fragment) (mark : ℕ) (file : List ℕ) → MakesFile shape padding
     → FirstAt shape padding (IsWhole shape padding file) heard mark → (block : List (List ℕ)) × (verdict shape heard ≡ complete mark block) × (file ≡ file_of padding shape block)
 unfolding IsVerdictNow

@@ -187,7 +187,7 @@ no_setup_kept (kept.complete d) k = absurd k
 no_setup_kept (kept.overflowed f) k = absurd k
 no_setup_kept (kept.conflicted f) k = absurd k
 
--- the padding lies in the last piece
+-- the padding is in the last piece
 pub room_for_padding : (nb_frag frag_size padding len : ℕ) → 1 ≤ nb_frag → padding < frag_size → len ≡ nb_frag * frag_size → padding ≤ len
 room_for_padding zero frag_size padding len some short is = absurd (omega arith)
 room_for_padding (suc k) frag_size padding len some short is = omega (arith, suc-mul k frag_size)

@@ -33,7 +33,7 @@ pub record IsOpen (shape : Shape) (padding : ℕ) (heard : List Fragment) : Type
   pub room : HasRoom shape heard
   pub files : (first : List ℕ) × (second : List ℕ) × TwoFilesFit shape padding heard first second
 
--- the file is whole: this one alone fits
+-- the file is whole: only this one fits
 pub record IsWhole (shape : Shape) (padding : ℕ) (file : List ℕ) (heard : List Fragment) : Type 0 where
   pub room : HasRoom shape heard
   pub alone : OneFileFits shape padding heard file
@@ -63,7 +63,7 @@ pub record MakesFile (shape : Shape) (padding : ℕ) : Type 0 where
 
 -- what is seen of one session, in terms of the files that fit
 pub record IsDecidedAtFirst (s : Session) : Type 0 where
-  -- whole from the first fragment on after which one file alone fits
+  -- whole from the first fragment on after which only one file fits
   pub complete : (mark : ℕ) → ((seen_of s).verdict ≡ verdict.Complete mark) ↔ ((file : List ℕ) × FirstAt (shape_of s) s.setup.padding (IsWhole (shape_of s) s.setup.padding file) s.heard mark)
   -- and that file is the one that is shown
   pub file : (mark : ℕ) (file : List ℕ) → FirstAt (shape_of s) s.setup.padding (IsWhole (shape_of s) s.setup.padding file) s.heard mark → (seen_of s).file ≡ file

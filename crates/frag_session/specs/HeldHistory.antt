@@ -1,4 +1,5 @@
--- When what a slot keeps stands for a history. Nothing above opens this: each call is said of every history that the slot stands for.
+-- When what a slot keeps stands for a history. Nothing above opens this: each call's contract is over every history that the slot
+-- stands for.
 use Rattle.std.specs.Prelude.{◌≡◌, ℕ, ◌*◌, ◌<◌, ◌≤◌, List, length, Option, Some, None}
 use Rattle.std.specs.List.{concat}
 use Rattle.frag_model.specs.Verdict.{complete, no_rows, conflict, verdict, missing}

@@ -1,4 +1,4 @@
--- What one call makes of what is held.
+-- What one call changes of what is held.
 use Rattle.std.specs.Prelude.{◌≡◌, ℕ, ◌+◌, ◌≤◌, ◌&&◌, ◌==◌, List, length, Option, Some, None, if◌then◌else◌}
 use Rattle.row_elimination.specs.HeldPlaces.{pieces_held}
 use Rattle.row_elimination.specs.HeldSolver.{missing_of}
@@ -31,7 +31,7 @@ abbrev pub kept_by : {W B : ℕ} → Option (State W B) → HeldSlot
 kept_by None = idle (extent_for 0)
 kept_by (Some s) = kept s
 
--- what a session has become
+-- what a session becomes
 abbrev pub become : {W B : ℕ} → Next W B → HeldSlot
 become (next.Receiving h) = receiving h
 become (next.Complete d) = complete d

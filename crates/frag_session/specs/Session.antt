@@ -34,7 +34,7 @@ pub record Session : Type 0 where
 unfoldable pub new_session : Limits → SetupReq → Session
 new_session limits req = record { setup = req; rows = rows_of limits.rows req; heard = [] }
 
--- a session stays at an equal request, and gives way to a new one at any other
+-- a session stays at an equal request, and any other replaces it by a new one
 unfoldable pub renewed : Limits → Option Session → SetupReq → Session
 renewed limits None req = new_session limits req
 renewed limits (Some s) req = if same_setup s.setup req then s else new_session limits req

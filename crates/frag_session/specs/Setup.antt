@@ -16,7 +16,7 @@ pub record Room : Type 0 where
   pub extent : Extent
   pub span : Option ℕ
 
--- that of a session which is kept in memory alone
+-- that of a session which is kept only in memory
 abbrev pub memory_room : (words bytes : ℕ) → Extent → Room
 memory_room words bytes extent = record { words = words; bytes = bytes; extent = extent; span = None }
 
@@ -40,7 +40,7 @@ too_large room rows req =
     too_long room.span req || nat_lt max_pieces req.nb_frag || nat_lt max_frag_size req.frag_size
     || not (has_room room.words room.bytes room.extent req.nb_frag req.frag_size (rows_of rows req))
 
--- one descriptor alone is taken, and it is another
+-- only one descriptor is accepted, and it is another
 unfoldable pub other_descriptor : Option ℕ → ℕ → Bool
 other_descriptor None descriptor = false
 other_descriptor (Some wanted) descriptor = not (descriptor == wanted)

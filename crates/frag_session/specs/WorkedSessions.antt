@@ -1,4 +1,4 @@
--- Setups, fragments and answers of a session that are worked out (TS004-1.0.0).
+-- Setups, fragments and answers of a session, worked out (TS004-1.0.0).
 use Rattle.std.specs.Prelude.{◌≡◌, ℕ, true, false, List, [], ◌∷◌, replicate, Option, Some, None}
 use Rattle.frag_model.specs.Fragments.{Fragment}
 use Rattle.frag_model.specs.News.{is_new}
@@ -88,7 +88,7 @@ pub record WorkedSessions : Type 0 where
   -- a session has no more rows than fragments, and no more than are kept
   pub new : after_setup worked_limits worked_room None worked_setup ≡ Some (session_of worked_setup 4 [])
   pub rows : after_setup (record worked_limits { rows = 3 }) worked_room None worked_setup ≡ Some (session_of worked_setup 3 [])
-  -- an equal setup keeps it, one with another field begins anew, and one that is refused changes nothing
+  -- an equal setup keeps it, one with another field starts a new one, and one that is refused changes nothing
   pub equal : renewed_by worked_setup ≡ Some worked_session
   pub index : renewed_by (record worked_setup { index = 1 }) ≡ Some (session_of (record worked_setup { index = 1 }) 4 [])
   pub mask : renewed_by (record worked_setup { mask = 3 }) ≡ Some (session_of (record worked_setup { mask = 3 }) 4 [])
@@ -132,7 +132,7 @@ pub record WorkedFragments : Type 0 where
       ≡ Some (session_of worked_setup 4 (record { number = 2; part = replicate 13 9; mark = 5 } ∷ one_heard ∷ []))
   pub dropped : after_fragment (Some worked_session) Unicast 0 (replicate 13 8) 5 ≡ Some worked_session
 
--- a fragment that is heard is told as new exactly where it is new after those before it; and what is answered
+-- a fragment that is heard is answered as new exactly where it is new after those before it; and what is answered
 pub record WorkedNews : Type 0 where
   pub new : (s : Session) (n : ℕ) (part : List ℕ) (mark : ℕ)
       → is_new (shape_of s) (fragment n part mark) s.heard ≡ true → news_in (Some s) n part mark ≡ New
@@ -161,7 +161,7 @@ pub record WorkedStatus : Type 0 where
   pub missing : status_in worked_setup (seen_with 3 1 Receiving) Unicast false ≡ Some (record { received = 3; missing = 1; norows = false; delay = 2 })
   pub own_group : status_in worked_setup (seen_with 3 1 Receiving) (Group 0) false ≡ Some (record { received = 3; missing = 1; norows = false; delay = 2 })
   pub other_group : status_in worked_setup (seen_with 3 1 Receiving) (Group 1) true ≡ None
-  -- by a group, as by unicast, a whole file is told where all are asked
+  -- by a group, as by unicast, a whole file is answered where all are asked
   pub own_group_all : status_in worked_setup (seen_with 4 0 (Complete 9)) (Group 0) true
       ≡ Some (record { received = 4; missing = 0; norows = false; delay = 2 })
   pub own_group_whole : status_in worked_setup (seen_with 4 0 (Complete 9)) (Group 0) false ≡ None

@@ -1,6 +1,6 @@
-//! What a session is asked with and what it answers.
+//! What a session is asked, and what it answers.
 
-/// How a payload came.
+/// How a payload came: by unicast or by a multicast group.
 #[derive(Clone, Copy, Debug, PartialEq, Eq)]
 pub enum Via {
     /// To the device alone.
@@ -9,30 +9,30 @@ pub enum Via {
     Group(u8),
 }
 
-/// Why a fragment is dropped.
+/// Why a fragment (TS004-1.0.0, DataFragment) is dropped.
 #[derive(Clone, Copy, Debug, PartialEq, Eq)]
 pub enum Cause {
-    /// No session lives.
+    /// There is no session.
     NoSession,
-    /// It came by a group that the session's mask does not have.
+    /// It came by a group that is not in the session's mask.
     Group,
     /// No fragment of the session has this number.
     Index,
-    /// It has not the session's number of bytes.
+    /// It doesn't have the session's number of bytes.
     Size,
 }
 
-/// Whether a fragment that was heard told something: it was heard while nothing was decided, and changed the gain, the
-/// pieces that came uncoded, or the verdict.
+/// Whether a heard fragment was new: nothing was decided when it came, and it changed the gain, the pieces that came uncoded, or
+/// the verdict.
 #[derive(Clone, Copy, Debug, PartialEq, Eq)]
 pub enum News {
-    /// It told something.
+    /// It was new.
     New,
-    /// It told nothing.
+    /// It changed nothing that is known.
     Old,
 }
 
-/// What became of a fragment.
+/// What happened to a fragment.
 #[derive(Clone, Copy, Debug, PartialEq, Eq)]
 pub enum Heard {
     /// It was heard.
@@ -46,7 +46,7 @@ pub enum Heard {
 pub enum Verdict {
     /// Nothing is decided yet.
     Receiving,
-    /// One file alone fits the fragments heard.
+    /// Only one file fits the fragments heard.
     Complete(u64),
     /// There were more independent coded fragments than rows.
     NoRows(u64),
@@ -63,11 +63,11 @@ pub struct View<'a> {
     pub missing: u16,
     /// What is known of the file.
     pub verdict: Verdict,
-    /// The file, and nothing unless it is complete.
+    /// The file, empty unless the session is complete.
     pub file: &'a [u8],
 }
 
-/// What FragSessionStatusAns says of a session (TS004-1.0.0).
+/// The fields of a FragSessionStatusAns (TS004-1.0.0, 3.2), and the delay of the answer.
 #[derive(Clone, Copy, Debug, PartialEq, Eq)]
 pub struct StatusAns {
     /// NbFragReceived: fragments heard, repeats included, at most 16,383.

@@ -12,7 +12,7 @@ use crate::setups::SetupReq;
 use row_elimination::{Solver, Stage};
 use std::marker::Model;
 
-/// A session whose fragments fit one file alone.
+/// A session whose fragments fit only one file.
 #[derive(Drop)]
 pub struct Complete<const W: usize, const B: usize> {
     solver: Solver<W, B>,
@@ -33,7 +33,7 @@ impl<const W: usize, const B: usize> Model for Complete<W, B> {
 }
 
 impl<const W: usize, const B: usize> Complete<W, B> {
-    /// A session that was decided at the mark.
+    /// Makes a session that was decided at the mark.
     pub(crate) fn decided(
         solver: Solver<W, B>,
         setup: SetupReq,

@@ -8,7 +8,7 @@ use crate::answers::{Cause, Via};
 use crate::setups::SetupReq;
 use frag_model::lines::MAX_PARITY_INDEX;
 
-/// The first cause for which a fragment is dropped.
+/// Returns the first cause for which a fragment is dropped.
 #[tactic(auto, unfolding(crate::specs::HeldSteps::slot_cause))]
 pub fn dropped(session: Option<SetupReq>, via: Via, n: u16, part: &[u8]) -> Option<Cause>
     ensures { result ≡ slot_cause session via n part.now }
@@ -35,7 +35,7 @@ fn cause(setup: SetupReq, via: Via, n: u16, part: &[u8]) -> Option<Cause>
     }
 }
 
-/// Whether a mask keeps out what came this way.
+/// Says whether a mask keeps out what came this way.
 #[tactic(auto, unfolding(crate::specs::Session::excludes))]
 pub fn excludes(mask: u8, via: Via) -> bool
     ensures { result ≡ excludes mask via }

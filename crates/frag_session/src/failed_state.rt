@@ -1,4 +1,4 @@
-//! A session that came to no file: its fragments contradict one another, or its rows did not suffice.
+//! A session that ended without a file: its fragments contradict one another, or it had too few rows.
 
 ghost use Rattle.std.specs.Prelude.{◌≡◌, ◌≤◌};
 ghost use Rattle.row_elimination.specs.HeldSolver.{missing_of};
@@ -28,7 +28,7 @@ impl<const W: usize, const B: usize> Model for Conflicted<W, B> {
     ghost view = { λ c. c.failed };
 }
 
-/// A session to which one independent coded fragment more came than it has rows.
+/// A session that heard one independent coded fragment more than it has rows.
 #[derive(Drop)]
 pub struct Overflowed<const W: usize, const B: usize> {
     pub(crate) failed: FailedState<W, B>,
@@ -113,7 +113,7 @@ impl<const W: usize, const B: usize> Overflowed<W, B> {
 }
 
 impl<const W: usize, const B: usize> FailedState<W, B> {
-    /// A session that was decided at the mark; what is missing is what the solver lacks.
+    /// Makes a session that was decided at the mark; it misses as many pieces as its solver.
     pub fn decided(
         solver: Solver<W, B>,
         setup: SetupReq,
@@ -153,7 +153,7 @@ impl<const W: usize, const B: usize> FailedState<W, B> {
         self.setup
     }
 
-    /// The solver that is kept.
+    /// Returns the solver that is kept.
     pub fn solver(&self) -> &Solver<W, B>
         ensures { result.now ≡ self.now.solver }
     {

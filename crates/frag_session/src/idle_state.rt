@@ -26,14 +26,14 @@ impl<const W: usize, const B: usize> Model for Idle<W, B> {
 }
 
 impl<const W: usize, const B: usize> Idle<W, B> {
-    /// A place for sessions in the memory of a solver.
+    /// Makes a place for sessions in the memory of a solver.
     pub fn new(solver: Solver<W, B>) -> Idle<W, B>
         ensures { result ≡ solver.entry.extent }
     {
         Idle { solver }
     }
 
-    /// Begins a session with nothing heard, or gives the memory back with all refusal bits (see `Slot::setup`).
+    /// Begins a session with nothing heard, or returns the memory with all refusal bits (see `Slot::setup`).
     pub fn setup(self, req: SetupReq, limits: Limits) -> Result<Receiving<W, B>, (Idle<W, B>, u8)>
         ensures bits { MatchResult result
             (λ session. setup_bits limits (memory_room W B self.entry) req ≡ 0)

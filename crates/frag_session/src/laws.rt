@@ -1,11 +1,11 @@
-//! Laws about the definitions, each the contract of a function that does nothing.
+//! Laws about the definitions, each the contract of a function with an empty body.
 
 ghost use Rattle.frag_session.specs.FirstMoment.{FirstMoment};
 ghost use Rattle.frag_session.specs.Missing.{MissingPieces};
 ghost use Rattle.frag_session.specs.WorkedSessions.{WorkedSetups, WorkedSessions, WorkedFragments, WorkedNews, WorkedStatus};
 
-/// A session is decided by the first heard fragment after which its file is no longer open: it is whole
-/// from the first one on after which one file alone fits, and shows that file.
+/// A session is decided by the first heard fragment after which its file is no longer open. It is whole from the first fragment
+/// on after which only one file fits, and shows that file.
 pub fn first_moment()
     ensures { FirstMoment }
 {}
@@ -16,7 +16,7 @@ pub fn missing_is_counted()
     ensures { MissingPieces }
 {}
 
-/// Setups, fragments and answers of a session that are worked out.
+/// Setups, fragments and answers of a session, worked out.
 pub fn worked_sessions()
     ensures setups { WorkedSetups }
     ensures sessions { WorkedSessions }

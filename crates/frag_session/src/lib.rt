@@ -1,7 +1,6 @@
-//! One fragmentation session of a LoRaWAN device (TS004-1.0.0): its setup, the fragments that it hears,
-//! and the file that they make. A slot stands for the list of all fragments heard since its setup, and
-//! its contracts say each answer of that list, though it keeps no list. Where payloads come from, and
-//! what becomes of a whole file, is left to the device above.
+//! One fragmentation session of a LoRaWAN device (TS004-1.0.0): its setup, the fragments that it hears, and the file that they
+//! make. A slot stands for the list of all fragments heard since its setup. It keeps no list, but its contracts say each answer
+//! over it. Where payloads come from, and what happens to a whole file, is left to the device above.
 //!
 //!     let solver = Solver::reserve(alloc, 256 * 48)?;          // all memory
 //!     let mut slot: Slot<64, 768> = Slot::new(Idle::new(solver));

@@ -17,7 +17,7 @@ use crate::setups::SetupReq;
 use row_elimination::{Fed, Solver};
 use std::marker::Model;
 
-/// NbFragReceived has 14 bits, and stays at their end.
+/// The most fragments that are counted: NbFragReceived has 14 bits, and stays at their end (TS004-1.0.0, FragSessionStatusAns).
 pub const MAX_RECEIVED: u16 = 16383;
 
 /// A session that hears fragments. A contract sees its setup and what its solver holds.
@@ -39,7 +39,7 @@ impl<const W: usize, const B: usize> Model for Receiving<W, B> {
     ghost invariant = { λ r. IsReceiving r.solver r.setup r.received };
 }
 
-/// What a session is after one more fragment.
+/// What a session becomes by one more fragment.
 #[derive(Drop)]
 pub enum Next<const W: usize, const B: usize> {
     Receiving(Receiving<W, B>),
@@ -49,7 +49,7 @@ pub enum Next<const W: usize, const B: usize> {
 }
 
 impl<const W: usize, const B: usize> Receiving<W, B> {
-    /// A session that heard nothing, over a solver that has just begun.
+    /// Makes a session that heard nothing, over a solver that has just begun.
     pub(crate) fn begin(solver: Solver<W, B>, setup: SetupReq) -> Receiving<W, B>
         requires begun { IsBegun solver }
         requires nb_frag { solver.shape.nb_frag ≡ setup.nb_frag }
@@ -64,8 +64,8 @@ impl<const W: usize, const B: usize> Receiving<W, B> {
         }
     }
 
-    /// Hears fragment `n` (1 to NbFrag + 8,380) of FragSize bytes, at the mark: it stands for what it stood for, followed by
-    /// the fragment. A session that this decides takes no more of them.
+    /// Hears fragment `n` (1 to NbFrag + 8,380) of FragSize bytes, at the mark: the session then stands for its list and this
+    /// fragment after it. A session that is decided by this takes no more fragments.
     pub fn feed(self, n: u16, part: &[u8], mark: u64) -> Next<W, B>
         requires first { 1 ≤ n }
         requires last { n ≤ self.setup.nb_frag + max_parity_index }
@@ -139,7 +139,7 @@ impl<const W: usize, const B: usize> Receiving<W, B> {
     }
 }
 
-/// One fragment more, up to the count's end.
+/// Counts one fragment more, up to the count's end.
 #[tactic(auto, unfolding(crate::specs::Held::one_more))]
 pub fn one_more(received: u16) -> u16
     ensures value { result ≡ one_more received }

@@ -9,7 +9,7 @@ use row_elimination::Solver;
 /// The most bytes of a fragment, so that one fits a payload of 242 bytes.
 pub const MAX_FRAGMENT: u8 = 239;
 
-/// The fields of FragSessionSetupReq (TS004-1.0.0), of which a session is made.
+/// The fields of FragSessionSetupReq (TS004-1.0.0), from which a session is made.
 #[derive(Clone, Copy, Debug, PartialEq, Eq)]
 pub struct SetupReq {
     /// FragIndex, the session's place.
@@ -26,23 +26,23 @@ pub struct SetupReq {
     pub delay: u8,
     /// Zero bytes at the end of the last piece.
     pub padding: u8,
-    /// Names the file, freely.
+    /// The descriptor, which names the file.
     pub descriptor: u32,
 }
 
-/// What a device takes.
+/// What a device accepts.
 #[derive(Clone, Copy, Debug)]
 pub struct Limits {
-    /// How many session indices there are.
+    /// The number of session indices.
     pub sessions: u8,
     /// Rows kept for coded fragments.
     pub rows: u16,
-    /// The one descriptor that is taken, if only one is.
+    /// The only descriptor that is accepted, where there is one.
     pub descriptor: Option<u32>,
 }
 
-/// All refusal bits of a setup over the room that a solver has, with so many bytes of flash where it is kept there; 0 where
-/// it is accepted.
+/// Returns all refusal bits of a setup over the room that a solver has, with so many bytes of flash where the session is kept
+/// there; 0 where it is accepted.
 #[tactic(auto, unfolding(crate::specs::Setup::setup_bits))]
 pub fn refusal<const W: usize, const B: usize>(
     solver: &Solver<W, B>,
@@ -60,7 +60,7 @@ pub fn refusal<const W: usize, const B: usize>(
     coding + size + index + descriptor
 }
 
-/// The rows of a session: as many as are kept, and no more than there are pieces.
+/// Returns the rows of a session: as many as are kept, and no more than there are pieces.
 pub fn rows_of(rows: u16, req: SetupReq) -> u16
     ensures value { result ≡ rows_of rows req }
     ensures few { result ≤ req.nb_frag }
@@ -69,7 +69,7 @@ pub fn rows_of(rows: u16, req: SetupReq) -> u16
 }
 
 #[tactic(auto, unfolding(crate::specs::Setup::lives, crate::specs::Setup::same_setup))]
-/// Whether a session that was made of `setup` stays at this request.
+/// Says whether a session that was made from `setup` stays at this request.
 pub fn lives(session: Option<SetupReq>, req: SetupReq) -> bool
     ensures { result ≡ lives session req }
 {
@@ -102,7 +102,7 @@ fn is_too_large<const W: usize, const B: usize>(
         || !solver.fits(req.nb_frag, req.frag_size, rows_of(rows, req))
 }
 
-/// Whether a session takes more flash than there is for it.
+/// Says whether a session takes more flash than there is for it.
 fn is_too_long(span: Option<u32>, req: SetupReq) -> bool
     ensures { result ≡ too_long span req }
 {

@@ -1,4 +1,4 @@
-//! A place for one session, in whatever state it is.
+//! A place for one session, in each of its states.
 
 ghost use Rattle.std.specs.Prelude.{◌≡◌, ◌<◌, ◌≢◌, ◌≤◌, Option, None, Some, IfSome, is_some, length, option_map};
 ghost use Rattle.frag_session.specs.Setup.{memory_room, setup_bits, lives};
@@ -29,8 +29,8 @@ pub enum State<const W: usize, const B: usize> {
     Conflicted(Conflicted<W, B>),
 }
 
-/// A place for one session. It stands for the session's setup and all fragments that it heard. `W` and `B` are those of
-/// its `Solver`.
+/// A place for one session (TS004-1.0.0). It stands for the session's setup and all fragments that it heard. `W` and `B` are
+/// those of its `Solver`.
 pub struct Slot<const W: usize, const B: usize> {
     state: Option<State<W, B>>,
 }
@@ -48,7 +48,7 @@ impl<const W: usize, const B: usize> Model for Slot<W, B> {
 }
 
 impl<const W: usize, const B: usize> Drop for Slot<W, B> {
-    /// Gives the memory of its solver back, in whichever state it is.
+    /// Gives the memory of its solver back, in every state.
     fn drop(self) {
         let Slot { state } = self;
         drop(state);
@@ -56,7 +56,7 @@ impl<const W: usize, const B: usize> Drop for Slot<W, B> {
 }
 
 impl<const W: usize, const B: usize> Slot<W, B> {
-    /// A slot without a session.
+    /// Makes a slot without a session.
     #[tactic(auto, unfolding(crate::specs::HeldHistory::Stands, crate::specs::HeldSteps::extent_of))]
     pub fn new(idle: Idle<W, B>) -> Slot<W, B>
         ensures stands { Stands result None }
@@ -67,9 +67,10 @@ impl<const W: usize, const B: usize> Slot<W, B> {
         }
     }
 
-    /// Answers FragSessionSetupReq (TS004-1.0.0) with all refusal bits: 1 for a coding that is not the standard's or numbers
-    /// that make no file, 2 for more than there is room for, 4 for an index that is not there, 8 for another descriptor.
-    /// Where there is none, a session that was made of an equal request stays, and any other gives way to a new one.
+    /// Takes a FragSessionSetupReq (TS004-1.0.0) and returns all refusal bits: 1 for a coding that is not the standard's or
+    /// numbers that make no file, 2 for more than there is room for, 4 for an index that is not there, 8 for another descriptor.
+    /// Where there is none, a session that was made from an equal request stays, and any other is replaced by a new one. It takes
+    /// no memory.
     pub fn setup(&mut self, req: SetupReq, limits: Limits) -> u8
         ensures bits { result ≡ setup_bits limits (memory_room W B (extent_of self.old)) req }
         ensures stands { (s : Option Session) → Stands self.old s
@@ -84,9 +85,9 @@ impl<const W: usize, const B: usize> Slot<W, B> {
         bits
     }
 
-    /// Hears the data of fragment `n` (TS004-1.0.0, DataFragment), or drops it for the first cause that holds: no session
-    /// lives, it came by a group that the mask has not, `n` is 0 or more than 8,380 above NbFrag, or `part` has not FragSize
-    /// bytes. A verdict is shown with the mark of the fragment that brought it, and stays.
+    /// Hears the data of fragment `n` (TS004-1.0.0, DataFragment), or drops it for the first cause that holds: there is no
+    /// session, it came by a group that is not in the mask, `n` is 0 or more than 8,380 above NbFrag, or `part` doesn't have
+    /// FragSize bytes. A verdict is shown with the mark of the fragment that brought it, and stays. It takes no memory.
     pub fn fragment(&mut self, via: Via, n: u16, part: &[u8], mark: u64) -> Heard
         ensures answer { (s : Option Session) → Stands self.old s
             → result ≡ answer_of (drop_cause s via n part.now) (news_in s n part.now mark) }
@@ -105,7 +106,7 @@ impl<const W: usize, const B: usize> Slot<W, B> {
         }
     }
 
-    /// All refusal bits of a setup, with so many bytes of flash where its session is kept there.
+    /// Returns all refusal bits of a setup, with so many bytes of flash where its session is kept there.
     #[tactic(auto, unfolding(crate::specs::HeldSteps::extent_of))]
     pub fn refusal(&self, req: SetupReq, limits: Limits, span: Option<u32>) -> u8
         ensures { result ≡ setup_bits limits
@@ -131,14 +132,14 @@ impl<const W: usize, const B: usize> Slot<W, B> {
         }
     }
 
-    /// Whether a session lives here.
+    /// Says whether there is a session.
     pub fn has_session(&self) -> bool
         ensures { (s : Option Session) → Stands self.now s → result ≡ is_some s }
     {
         self.session().is_some()
     }
 
-    /// Whether the session that lives here stays at this request, since it was made of an equal one.
+    /// Says whether the session stays at this request, since it was made from an equal one.
     pub fn keeps(&self, req: SetupReq) -> bool
         ensures { (s : Option Session) → Stands self.now s
             → result ≡ lives (option_map (λ (x : Session). x.setup) s) req }
@@ -146,7 +147,7 @@ impl<const W: usize, const B: usize> Slot<W, B> {
         lives(self.session(), req)
     }
 
-    /// What the session shows, if there is one.
+    /// Returns what the session shows; None where there is none.
     pub fn view(&self) -> Option<View<'_>>
         ensures value { (s : Option Session) → Stands self.now s
             → option_map seen result ≡ view_of s }
@@ -156,8 +157,8 @@ impl<const W: usize, const B: usize> Slot<W, B> {
         self.shown()
     }
 
-    /// The answer to FragSessionStatusReq (TS004-1.0.0; `all` is its Participants bit); None where there is no session, it
-    /// came by a group that the session's mask does not have, or it does not ask `all` and no piece is missing.
+    /// Answers a FragSessionStatusReq (TS004-1.0.0, 3.2; `all` is its Participants bit); None where there is no session, the
+    /// request came by a group that is not in the session's mask, or it doesn't ask `all` and no piece is missing.
     pub fn status(&self, via: Via, all: bool) -> Option<StatusAns>
         ensures answer { (s : Option Session) → Stands self.now s → result ≡ status_of s via all }
         ensures few { IfSome result (λ a. a.received ≤ max_received) }
@@ -190,7 +191,7 @@ impl<const W: usize, const B: usize> Slot<W, B> {
         cleared(state.unwrap())
     }
 
-    /// Ends the session, if there is one.
+    /// Ends the session, where there is one.
     fn clear(&mut self)
         ensures { self.new ≡ idle (extent_of self.old) }
     {
@@ -199,7 +200,7 @@ impl<const W: usize, const B: usize> Slot<W, B> {
         }
     }
 
-    /// Puts a new session in the place of whatever lived. The request must have no refusal bit.
+    /// Replaces whatever session there was by a new one. The request must have no refusal bit.
     pub fn renew(&mut self, req: SetupReq, limits: Limits)
         requires { setup_bits limits (memory_room W B (extent_of self.old)) req ≡ 0 }
         ensures stands { Stands self.new (Some (new_session limits req)) }
@@ -249,7 +250,7 @@ impl<const W: usize, const B: usize> Slot<W, B> {
         }
     }
 
-    /// The request that the session was made of.
+    /// The request from which the session was made.
     #[tactic(auto, unfolding(crate::specs::HeldSteps::session_setup))]
     fn session(&self) -> Option<SetupReq>
         ensures { result ≡ session_setup self.now }
@@ -289,7 +290,7 @@ fn news_between(before: Option<(u16, u16)>, after: Option<(u16, u16)>) -> News
     }
 }
 
-/// The memory of whatever lived.
+/// The memory of whatever state it was.
 #[tactic(auto, unfolding(crate::specs::HeldSteps::extent_of))]
 fn cleared<const W: usize, const B: usize>(state: State<W, B>) -> Idle<W, B>
     ensures { result ≡ extent_of (kept state.entry) }
@@ -311,7 +312,7 @@ fn ended<const W: usize, const B: usize>(state: State<W, B>) -> State<W, B>
     State::Idle(cleared(state))
 }
 
-/// The state with a new session in the place of whatever lived.
+/// The state with a new session instead of whatever there was.
 fn renewed<const W: usize, const B: usize>(
     state: State<W, B>,
     req: SetupReq,

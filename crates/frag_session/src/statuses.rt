@@ -8,7 +8,7 @@ use crate::answers::{StatusAns, Verdict, Via, View};
 use crate::dropping::excludes;
 use crate::setups::SetupReq;
 
-/// The answer of a session with this setup, of which this is seen.
+/// Answers for a session with this setup, of which this is seen.
 #[tactic(auto, unfolding(crate::specs::Session::status_in, crate::specs::HeldView::seen))]
 pub fn status_in(setup: SetupReq, view: &View, via: Via, all: bool) -> Option<StatusAns>
     ensures answer { result ≡ status_in setup (seen view.now) via all }
@@ -34,7 +34,7 @@ fn status(view: &View, delay: u8) -> StatusAns
     }
 }
 
-/// Whether the memory did not suffice.
+/// Whether there were too few rows.
 fn is_overflow(verdict: Verdict) -> bool
     ensures { result ≡ is_overflow verdict }
 {

@@ -1,6 +1,6 @@
-//! The program `fuota`: it hands its words, the system's files and the standard output to the run of a campaign,
-//! and ends with the status of that run. What a run does is the contract of `fuota_run::run`; nothing else is here.
-//! Words that are no text are wrong words; where there is no memory for them, the status says so.
+//! The program `fuota`: it gives its words, the system's files and the standard output to the run of a campaign, and ends with
+//! the status of that run. What a run does is the contract of `fuota_run::run`; nothing else is here. Words that are no text
+//! are wrong words; where there is no memory for them, the status says so.
 #![tactic(auto)]
 
 use fuota_run::{Status, StdFiles, StdSink, run};

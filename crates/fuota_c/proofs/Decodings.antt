@@ -38,7 +38,7 @@ out_of (Ok commands) text old new before out answer is none made =
     subst (λ (w : List ℕ). IsTextOut w old new before out answer) is made
 out_of (Err e) text old new before out answer is none made = absurd (none e refl)
 
--- where memory was wanting, whatever the text
+-- where memory was missing, whatever the text
 pub wanting : (reading : Reading) (old : List ℕ) (out : DecodedFields)
     → ((r : Refusal) → reading ≡ Err r → ⊥) → IsDecoded reading old old out out no_memory
 wanting (Ok commands) old out none = inr (inr (record { answered = refl; stays = refl; untold = refl }))

@@ -23,32 +23,32 @@ why_number why.UnknownCommand = 1
 why_number why.Short = 2
 why_number why.TooLong = 3
 
--- the length of a text is told, and nothing else
+-- only the length of a text is written
 pub record IsLength (text : List ℕ) (before out : DecodedFields) : Type 0 where
   pub count : out.length ≡ length text
   pub at : out.at ≡ before.at
   pub why : out.why ≡ before.why
 
--- the text stands at the front, and its length is told
+-- the text is at the front, and its length is written
 pub record IsTold (text old new : List ℕ) (before out : DecodedFields) (answer : ℕ) : Type 0 where
   pub answered : answer ≡ done
   pub put : IsPut text old new
   pub told : IsLength text before out
 
--- it has no room, and its length is told
+-- it has no room, and its length is written
 pub record HasNoRoom (text old new : List ℕ) (before out : DecodedFields) (answer : ℕ) : Type 0 where
   pub answered : answer ≡ no_room
   pub over : length old < length text
   pub stays : new ≡ old
   pub told : IsLength text before out
 
--- memory was wanting, and nothing is written
+-- memory was missing, and nothing is written
 pub record HasNoMemory (old new : List ℕ) (before out : DecodedFields) (answer : ℕ) : Type 0 where
   pub answered : answer ≡ no_memory
   pub stays : new ≡ old
   pub untold : out ≡ before
 
--- a refusal is told by its place and why, and nothing else
+-- only the place and the cause of a refusal are written
 pub record IsRefusal (refusal : Refusal) (old new : List ℕ) (before out : DecodedFields) (answer : ℕ) : Type 0 where
   pub answered : answer ≡ refused
   pub stays : new ≡ old
@@ -60,12 +60,12 @@ abbrev pub IsTextOut : (text old new : List ℕ) → (before out : DecodedFields
 IsTextOut text old new before out answer = IsTold text old new before out answer
     ⊎ (HasNoRoom text old new before out answer ⊎ HasNoMemory old new before out answer)
 
--- commands are told as text, and a refusal by its place and why
+-- commands are written as text, and a refusal by its place and why
 abbrev pub IsDecoded : Reading → (old new : List ℕ) → (before out : DecodedFields) → (answer : ℕ) → Type 0
 IsDecoded (Ok commands) old new before out answer = IsTextOut (lines_of commands) old new before out answer
 IsDecoded (Err refusal) old new before out answer = IsRefusal refusal old new before out answer
 
--- a payload that a radio can bring is told; of a longer one nothing is written
+-- a payload that a radio can bring is decoded; for a longer one nothing is written
 pub record DecodesOrNot (port : ℕ) (direction : Direction) (payload old new : List ℕ) (before out : DecodedFields)
     (answer : ℕ) : Type 0 where
   pub told : length payload ≤ max_payload → IsDecoded (reading_of port direction payload) old new before out answer

@@ -52,7 +52,7 @@ extent_for shape = record { area = shape.pieces * shape.piece; pieces = shape.pi
 abbrev pub room_for : Shape → Room
 room_for shape = memory_room (shape.rows * (shape.pieces / 64)) (shape.rows * shape.piece) (extent_for shape)
 
--- session 0 alone, with any descriptor
+-- only session 0, with any descriptor
 abbrev pub limits_for : Shape → Limits
 limits_for shape = record { sessions = 1; rows = shape.rows; descriptor = None }
 
@@ -76,13 +76,13 @@ pub record ReceiverStands (size : Size) (x : Receiver) (s : Option Session) : Ty
 
 -- ---- what its calls do
 
--- a receiver of the size with this number, without a session; none where no size has it, or memory was wanting
+-- a receiver of the size with this number, without a session; none where no size has it, or memory was missing
 abbrev pub IsNewReceiver : (told : ℕ) → Option Receiver → (answer : ℕ) → Type 0
 IsNewReceiver told None answer = ((answer ≡ range) × (2 < told)) ⊎ ((answer ≡ no_memory) × (told ≤ 2))
 IsNewReceiver told (Some x) answer =
     (answer ≡ done) × (told ≡ size_number (size_of x)) × ReceiverStands (size_of x) x None
 
--- a setup is answered with all its refusal bits, and without one its session lives
+-- a setup is answered with all its refusal bits, and without one there is its session
 abbrev pub SetsUp : (old new : Receiver) → SetupReq → (bits : ℕ) → Type 0
 SetsUp old new req bits = (s : Option Session) → let shape = shape_of (size_of old) in
     ReceiverStands (size_of old) old s → (bits ≡ setup_bits (limits_for shape) (room_for shape) req)

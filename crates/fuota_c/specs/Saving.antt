@@ -1,4 +1,4 @@
--- What a device saves for C, and the device that comes back of such bytes.
+-- What a device saves for C, and the device that is restored from such bytes.
 use Rattle.std.specs.Prelude.{◌≡◌, ◌⊎◌, ℕ, Bool, true, false, not, IsTrue, List, Option, Some, None, Result, Ok, Err}
 use Rattle.flash_session.specs.Flashes.{Cells}
 use Rattle.device_core.specs.declared.config.DeviceConfig.{DeviceConfig}

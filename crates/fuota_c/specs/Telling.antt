@@ -1,4 +1,4 @@
--- What a device tells C beside its sessions.
+-- What a device shows C besides its sessions.
 use Rattle.std.specs.Prelude.{ℕ}
 use Rattle.image_slots.specs.declared.view.ImageState.{ImageState}
 use Rattle.image_slots.specs.declared.view.ImageState.TheVariants as image

@@ -27,7 +27,7 @@ pub struct ConfigFields {
     pub key: [u8; 16],
 }
 
-/// Whether a device can be so configured, over a flash of these bytes.
+/// Says whether a device can be so configured, over a flash of these bytes.
 pub fn fits(config: &DeviceConfig, bytes: &[u8]) -> bool
     ensures { result ≡ fits config.now bytes.now }
 {
@@ -37,7 +37,7 @@ pub fn fits(config: &DeviceConfig, bytes: &[u8]) -> bool
     }
 }
 
-/// The configuration of these fields.
+/// Makes the configuration of these fields.
 pub fn config_of(fields: &ConfigFields) -> DeviceConfig
     ensures { result ≡ config_of fields.now }
 {
@@ -68,7 +68,7 @@ pub fn config_of(fields: &ConfigFields) -> DeviceConfig
     }
 }
 
-/// The configuration of these fields, of a device whose sessions are held in flash, each in so many bytes.
+/// Makes the configuration of these fields, of a device whose sessions are held in flash, each in so many bytes.
 pub fn held_config_of(fields: &ConfigFields, span: u32) -> DeviceConfig
     ensures { result ≡ held_config_of fields.now span }
 {

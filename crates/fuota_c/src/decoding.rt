@@ -10,7 +10,7 @@ use sample_decoder::{DecodeError, decode};
 use std::alloc::Global;
 use wire_base::{Direction, MAX_PAYLOAD, Why};
 
-/// The bytes of a text; or at which byte a payload is refused, counted from 0, and why.
+/// The bytes of a text; or the byte at which a payload is refused, counted from 0, and why.
 #[repr(C)]
 #[derive(Drop)]
 pub struct DecodedFields {
@@ -19,9 +19,9 @@ pub struct DecodedFields {
     pub why: u8,
 }
 
-/// The commands of a payload of port 200 to 203, each on a line, at the front of `text`: done, with the text's
-/// length. Refused where the payload spells no commands, with the place and why; no room where the text has more
-/// bytes, with its length; no memory; out of range at more than 242 bytes of payload.
+/// Writes the commands of a payload of port 200 to 203, each on a line, to the front of `text`: done, with the text's length.
+/// Refused where the payload spells no commands, with the place and why; no room where the text has more bytes, with its length;
+/// no memory; out of range at more than 242 bytes of payload.
 #[unsafe(no_mangle)]
 pub extern "C" fn fuota_decode(
     alloc: Global,
@@ -57,7 +57,7 @@ fn decode_into(
             if lines.len() > text.len() {
                 return NO_ROOM;
             }
-            // (C is told the count already)
+            // (C has the count already)
             let _count = put_whole(&lines, text);
             DONE
         }

@@ -38,7 +38,7 @@ pub struct ArrivalFields {
     pub is_group: bool,
 }
 
-/// An uplink: when it is due, in ms of true time; its bytes are the first `length` ones.
+/// An uplink: when it is due, in ms of true time; its bytes are the first `length`.
 #[repr(C)]
 #[derive(Drop)]
 pub struct UplinkFields {
@@ -48,8 +48,8 @@ pub struct UplinkFields {
     pub payload: [u8; 242],
 }
 
-/// Frees what was there, and puts a new device into the handle, with all memory that it will ever need: done; out of
-/// range where a number of the configuration is, or no memory, and then there is no device.
+/// Frees what was there, and puts a new device into the handle, with all memory that it ever needs: done; out of range where a
+/// number of the configuration is, or no memory, and then there is no device.
 #[unsafe(no_mangle)]
 pub extern "C" fn fuota_device_new(
     handle: &mut DeviceHandle,
@@ -103,11 +103,11 @@ fn boxed(
 pub extern "C" fn fuota_device_free(handle: &mut DeviceHandle, alloc: Global)
     ensures { handle.new.held ≡ None }
 {
-    // Dropped here, and its memory with it.
+    // It is dropped here, and its memory with it.
     let _device = handle.take(alloc);
 }
 
-/// A payload comes: done, where its commands acted; deaf, refused or full, where they did not; down where its sessions are;
+/// Brings a payload: done, where its commands acted; deaf, refused or full, where they did not; down where its sessions are;
 /// out of range at more than 242 bytes and at a `t` of more than 4,294,967,295,999. Nothing changes at the last two.
 #[unsafe(no_mangle)]
 pub extern "C" fn fuota_device_deliver(
@@ -164,7 +164,7 @@ fn downlink_of(port: u8, payload: &[u8], arrival: &ArrivalFields) -> Downlink
     }
 }
 
-/// The number of what became of a payload.
+/// Returns the number of what happened to a payload.
 pub fn delivered_number(delivered: Delivered) -> u8
     ensures { result ≡ delivered_number delivered }
 {
@@ -179,8 +179,8 @@ pub fn delivered_number(delivered: Delivered) -> u8
     }
 }
 
-/// The device wakes at `t` ms of true time, and asks for the time: done; full where it holds 8 uplinks; out of range
-/// at a `t` of more than 4,294,967,295,999, where nothing changes.
+/// Wakes the device at `t` ms of true time, and it asks for the time: done; full where it holds 8 uplinks; out of range at a `t`
+/// of more than 4,294,967,295,999, where nothing changes.
 #[unsafe(no_mangle)]
 pub extern "C" fn fuota_device_wake(handle: &mut DeviceHandle, alloc: Global, t: u64) -> u8
     ensures { Does handle.old.held handle.new.held (λ x y. WakesOrNot x y t result)
@@ -208,7 +208,7 @@ fn wake_or_not(device: &mut Device<CellFlash>, t: u64) -> u8
     }
 }
 
-/// Takes the oldest uplink that is held: done, or nothing where none is.
+/// Takes the oldest uplink that is held: done, or nothing where none is held.
 #[unsafe(no_mangle)]
 pub extern "C" fn fuota_device_take_uplink(
     handle: &mut DeviceHandle,
@@ -248,7 +248,7 @@ fn put_uplink(uplink: &Uplink, out: &mut UplinkFields)
     out.length = put_whole(uplink.payload.as_slice(), &mut out.payload);
 }
 
-/// What the session of an index, 0 to 3, shows: done, or nothing where there is no session; out of range at any other
+/// Writes what the session of an index, 0 to 3, shows: done, or nothing where there is no session; out of range at any other
 /// index.
 #[unsafe(no_mangle)]
 pub extern "C" fn fuota_device_view(
@@ -280,8 +280,8 @@ fn show_session(device: &Device<CellFlash>, index: u8, out: &mut ViewFields) -> 
     show(device.session(index), out)
 }
 
-/// Copies bytes of the whole file of the session of an index, 0 to 3, from the offset on, as many as there are and
-/// have room; their count.
+/// Copies bytes of the whole file of the session of an index, 0 to 3, from the offset on, as many as there are and have room, and
+/// returns their count.
 #[unsafe(no_mangle)]
 pub extern "C" fn fuota_device_file(
     handle: &mut DeviceHandle,
@@ -314,7 +314,7 @@ fn copy_session(device: &Device<CellFlash>, index: u8, offset: usize, into: &mut
     copy_part(file_in(device.session(index)), offset, into)
 }
 
-/// The version of the firmware that runs, 0 at first: done.
+/// Writes the version of the firmware that runs, 0 at first: done.
 #[unsafe(no_mangle)]
 pub extern "C" fn fuota_device_running(
     handle: &mut DeviceHandle,

@@ -27,7 +27,7 @@ impl Model for DeviceHandle {
 }
 
 impl Drop for DeviceHandle {
-    /// Frees the device, if there is one.
+    /// Frees the device, where there is one.
     fn drop(self) {
         // dropped at the end of this block
         let _device = self.into_handle().into_box();
@@ -35,14 +35,14 @@ impl Drop for DeviceHandle {
 }
 
 impl DeviceHandle {
-    /// The handle of a device.
+    /// Makes the handle of a device.
     pub fn of(device: Box<Device<CellFlash>>) -> DeviceHandle
         ensures { result.held ≡ Some device.value }
     {
         DeviceHandle::of_handle(Handle::of(device))
     }
 
-    /// The device, if there is one, of which the handle then has none.
+    /// Takes the device out of the handle, where there is one.
     pub fn take(&mut self, alloc: Global) -> Option<Box<Device<CellFlash>>>
         ensures value { option_map (λ b. b.value) result ≡ self.old.held }
         ensures none { self.new.held ≡ None }

@@ -20,9 +20,9 @@ use device_core::Device;
 use flash_session::CellFlash;
 use std::alloc::Global;
 
-/// As `fuota_device_new`, of a device whose sessions are held in a flash of these bytes, each in `span` of them. Its sessions
-/// are down until `fuota_device_power`. Out of range too where the flash has no room for four spans, or has 2^32 bytes and
-/// more.
+/// Does what `fuota_device_new` does, for a device whose sessions are held in a flash of these bytes, each in `span` of them.
+/// They are down until `fuota_device_power`. Out of range also where the flash has no room for four spans of at least 24,640
+/// bytes, or has 2^32 bytes and more.
 #[unsafe(no_mangle)]
 pub extern "C" fn fuota_device_new_in_flash(
     handle: &mut DeviceHandle,
@@ -36,8 +36,8 @@ pub extern "C" fn fuota_device_new_in_flash(
     put_new(handle, alloc, held_config_of(config, span), flash)
 }
 
-/// As `fuota_device_restore`, of a device whose sessions are held in a flash of these bytes, each in `span` of them. Its
-/// sessions are down until `fuota_device_power`. Out of range too as `fuota_device_new_in_flash`.
+/// Does what `fuota_device_restore` does, for a device whose sessions are held in a flash of these bytes, each in `span` of
+/// them. They are down until `fuota_device_power`. Out of range also as `fuota_device_new_in_flash`.
 #[unsafe(no_mangle)]
 pub extern "C" fn fuota_device_restore_in_flash(
     handle: &mut DeviceHandle,
@@ -56,8 +56,8 @@ pub extern "C" fn fuota_device_restore_in_flash(
 }
 
 /// Opens the sessions that are held in flash, and offers each file that is whole now, and was not when the device was last up,
-/// to next: done; flash where something lies there that is no session's, and then they are down; nothing where the sessions
-/// are in memory.
+/// to next: done; flash where the bytes of a session's range are of no session, and then they are down; nothing where the
+/// sessions are in memory.
 #[unsafe(no_mangle)]
 pub extern "C" fn fuota_device_power(handle: &mut DeviceHandle, alloc: Global) -> u8
     ensures { Does handle.old.held handle.new.held (λ x y. PowersOrNot x y result)
@@ -85,8 +85,8 @@ fn power_or_not(device: &mut Device<CellFlash>) -> u8
     }
 }
 
-/// Copies bytes of the flash from the offset on, as many as there are and have room; their count. A device whose sessions are
-/// in memory has none.
+/// Copies bytes of the flash from the offset on, as many as there are and have room, and returns their count; 0 where sessions
+/// are in memory.
 #[unsafe(no_mangle)]
 pub extern "C" fn fuota_device_flash(
     handle: &mut DeviceHandle,

@@ -12,9 +12,9 @@ use device_core::{Aired, Device};
 use flash_session::CellFlash;
 use std::alloc::Global;
 
-/// Bytes that the radio heard come at `t` ms of true time, with a random word and the number at which a verdict is marked:
-/// foreign where they are no frame of the group that is heard; else as its payload is by `fuota_device_deliver`. Out of range
-/// at a `t` of more than 4,294,967,295,999, where nothing changes.
+/// Takes bytes that the radio heard at `t` ms of true time, with a random word and the number that marks a verdict: foreign where
+/// they are no frame of the group that is heard; else the answer of `fuota_device_deliver` to their payload. Out of range at a
+/// `t` of more than 4,294,967,295,999, where nothing changes.
 #[unsafe(no_mangle)]
 pub extern "C" fn fuota_device_radio(
     handle: &mut DeviceHandle,

@@ -34,9 +34,9 @@ pub struct SetupFields {
     pub padding: u8,
 }
 
-/// Frees what was there, and puts a new receiver of a size, with no session, into the handle: done; out of range at a size
-/// above 2, or no memory, and then there is no receiver. Size 0 takes 256 pieces of 48 bytes and keeps 16 rows, 1 takes 1,024
-/// of 48 and keeps 64, 2 takes 4,096 of 64 and keeps 256.
+/// Frees what was there, and puts a new receiver of a size, with no session, into the handle: done; out of range at a size above
+/// 2, or no memory, and then there is no receiver. Size 0 takes 256 pieces of 48 bytes and keeps 16 rows, 1 takes 1,024 of 48 and
+/// keeps 64, 2 takes 4,096 of 64 and keeps 256.
 #[unsafe(no_mangle)]
 pub extern "C" fn fuota_receiver_new(handle: &mut ReceiverHandle, alloc: Global, size: u8) -> u8
     ensures { IsNewReceiver size handle.new.held result }
@@ -79,16 +79,17 @@ fn made(alloc: Global, size: Size) -> Option<Box<Receiver>>
     }
 }
 
-/// Frees the receiver, if there is one; the handle has none afterwards.
+/// Frees the receiver, where there is one; the handle has none afterwards.
 #[unsafe(no_mangle)]
 pub extern "C" fn fuota_receiver_free(handle: &mut ReceiverHandle, alloc: Global)
     ensures { handle.new.held ≡ None }
 {
-    // Dropped here, and its memory with it.
+    // It is dropped here, and its memory with it.
     let _receiver = handle.take(alloc);
 }
 
-/// FragSessionSetupReq: all refusal bits of its answer, 0 where the session lives; 255 where there is no receiver.
+/// Takes a FragSessionSetupReq and returns all refusal bits of its answer, 0 where it has a session; 255 where there is no
+/// receiver.
 #[unsafe(no_mangle)]
 pub extern "C" fn fuota_receiver_set_up(
     handle: &mut ReceiverHandle,
@@ -123,8 +124,7 @@ fn request_of(setup: &SetupFields) -> SetupReq
     }
 }
 
-/// A payload of port 201, by unicast, with a mark that is the caller's own: done; out of range at more than 242
-/// bytes.
+/// Takes a payload of port 201, by unicast, with a mark that the caller chooses: done; out of range at more than 242 bytes.
 #[unsafe(no_mangle)]
 pub extern "C" fn fuota_receiver_hear(
     handle: &mut ReceiverHandle,
@@ -155,7 +155,7 @@ fn hear_or_not(receiver: &mut Receiver, payload: &[u8], mark: u64) -> u8
     DONE
 }
 
-/// What the session shows: done, or nothing where there is no session.
+/// Writes what the session shows: done, or nothing where there is no session.
 #[unsafe(no_mangle)]
 pub extern "C" fn fuota_receiver_view(
     handle: &mut ReceiverHandle,
@@ -178,7 +178,7 @@ pub extern "C" fn fuota_receiver_view(
     }
 }
 
-/// Copies bytes of the whole file, from the offset on, as many as there are and have room; their count.
+/// Copies bytes of the whole file, from the offset on, as many as there are and have room, and returns their count.
 #[unsafe(no_mangle)]
 pub extern "C" fn fuota_receiver_file(
     handle: &mut ReceiverHandle,
@@ -202,8 +202,8 @@ pub extern "C" fn fuota_receiver_file(
     }
 }
 
-/// FragSessionStatusAns, as the bytes to send, at the front of `answer`; their count, and 0 where none is to be sent
-/// or where they have no room, which is 5 bytes.
+/// Writes a FragSessionStatusAns, as the bytes to send, to the front of `answer`, and returns their count; 0 where none is to be
+/// sent or where they have no room, which is 5 bytes.
 #[unsafe(no_mangle)]
 pub extern "C" fn fuota_receiver_status(
     handle: &mut ReceiverHandle,

@@ -25,7 +25,7 @@ impl Model for ReceiverHandle {
 }
 
 impl Drop for ReceiverHandle {
-    /// Frees the receiver, if there is one.
+    /// Frees the receiver, where there is one.
     fn drop(self) {
         // dropped at the end of this block
         let _receiver = self.into_handle().into_box();
@@ -33,14 +33,14 @@ impl Drop for ReceiverHandle {
 }
 
 impl ReceiverHandle {
-    /// The handle of a receiver.
+    /// Makes the handle of a receiver.
     pub fn of(receiver: Box<Receiver>) -> ReceiverHandle
         ensures { result.held ≡ Some receiver.value }
     {
         ReceiverHandle::of_handle(Handle::of(receiver))
     }
 
-    /// The receiver, if there is one, of which the handle then has none.
+    /// Takes the receiver out of the handle, where there is one.
     pub fn take(&mut self, alloc: Global) -> Option<Box<Receiver>>
         ensures value { option_map (λ b. b.value) result ≡ self.old.held }
         ensures none { self.new.held ≡ None }

@@ -1,4 +1,4 @@
-//! A device outlasts its process: what it saves, the files of its slots, and the device that comes back of both.
+//! A device outlasts its process: what it saves, the files of its slots, and the device that is restored from both.
 
 ghost use Rattle.std.specs.Prelude.{◌≡◌, []};
 ghost use Rattle.core.specs.Result.{result_map_both};
@@ -16,8 +16,8 @@ use device_core::{Device, DeviceConfig, RestoreError};
 use flash_session::CellFlash;
 use std::alloc::Global;
 
-/// What the device knows, as 492 bytes for `fuota_device_restore`, to the front of `into`; their count, and 0 where they have
-/// no room, or without a device.
+/// Copies what the device knows, as 492 bytes for `fuota_device_restore`, to the front of `into`, and returns their count; 0
+/// where they have no room, or without a device.
 #[unsafe(no_mangle)]
 pub extern "C" fn fuota_device_save(
     handle: &mut DeviceHandle,
@@ -44,8 +44,8 @@ fn save(device: &Device<CellFlash>, into: &mut [u8]) -> usize
     put_whole(device.save().as_slice(), into)
 }
 
-/// Copies bytes of the file that was received to run next, or of the one that runs, from the offset on, as many as there are
-/// and have room; their count.
+/// Copies bytes of the file that was received to run next, or of the one that runs, from the offset on, as many as there are and
+/// have room, and returns their count.
 #[unsafe(no_mangle)]
 pub extern "C" fn fuota_device_firmware(
     handle: &mut DeviceHandle,
@@ -79,9 +79,9 @@ fn slot_file(device: &Device<CellFlash>, is_next: bool) -> &[u8]
     }
 }
 
-/// Frees what was there, and puts the device of this configuration that saved these bytes, with the files of its slots, into
-/// the handle, without sessions: done; out of range as `fuota_device_new`; corrupt where no such device saved them; no memory.
-/// But for done there is no device.
+/// Frees what was there, and puts the device of this configuration that saved these bytes, with the files of its slots, into the
+/// handle, without sessions: done; out of range as `fuota_device_new`; corrupt where no such device saved them; no memory. Except
+/// at done there is no device.
 #[unsafe(no_mangle)]
 pub extern "C" fn fuota_device_restore(
     handle: &mut DeviceHandle,

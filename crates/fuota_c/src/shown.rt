@@ -7,9 +7,8 @@ ghost use Rattle.fuota_c.specs.Shown.{IsShown, fields_of, file_or_none, mark_of,
 use c_base::answer::{DONE, NOTHING};
 use frag_session::{Verdict, View};
 
-/// What a session shows: the mark of the fragment that decided it, and 0 before; the bytes of the whole file, and 0
-/// where none is whole; the fragments heard, at most 16,383, and the pieces still to be gained; the number of its
-/// verdict.
+/// What a session shows: the mark of the fragment that decided it, and 0 before; the bytes of the whole file, and 0 where none is
+/// whole; the fragments heard, at most 16,383, and the pieces still to be gained; the number of its verdict.
 #[repr(C)]
 #[derive(Drop)]
 pub struct ViewFields {
@@ -20,7 +19,7 @@ pub struct ViewFields {
     pub verdict: u8,
 }
 
-/// Writes what a session shows, if there is one.
+/// Writes what a session shows, where there is one.
 pub fn show(view: Option<View>, out: &mut ViewFields) -> u8
     ensures { IsShown (option_map seen view.entry) out.old out.new result }
 {
@@ -33,7 +32,7 @@ pub fn show(view: Option<View>, out: &mut ViewFields) -> u8
     }
 }
 
-/// The whole file, and no bytes where none is.
+/// Returns the whole file, and no bytes where none is whole.
 #[tactic(auto, unfolding(frag_session::specs::HeldView::seen))]
 pub fn file_in(view: Option<View<'_>>) -> &[u8]
     ensures { result.now ≡ file_or_none (option_map seen view.entry) }

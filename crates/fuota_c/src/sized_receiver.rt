@@ -31,7 +31,7 @@ pub enum Receiver {
     Large(Slot<16384, 16384>),
 }
 
-/// All memory that a receiver of a size ever uses.
+/// Takes all memory that a receiver of a size ever uses.
 pub fn new_receiver(alloc: Global, size: Size) -> Result<Receiver, Memory>
     ensures { IfOk result (λ receiver. ReceiverStands size receiver None) }
 {
@@ -51,7 +51,7 @@ pub fn new_receiver(alloc: Global, size: Size) -> Result<Receiver, Memory>
     }
 }
 
-/// Session 0 alone, with any descriptor.
+/// Only session 0, with any descriptor.
 fn limits(rows: u16) -> Limits
     ensures { result ≡ record { sessions = 1; rows = rows; descriptor = None } }
 {
@@ -62,7 +62,7 @@ fn limits(rows: u16) -> Limits
     }
 }
 
-/// FragSessionSetupReq: all refusal bits of its answer; with 0 its session lives.
+/// Takes a FragSessionSetupReq and returns all refusal bits of its answer; with 0 it has a session.
 pub fn set_up(receiver: &mut Receiver, req: SetupReq) -> u8
     ensures { SetsUp receiver.old receiver.new req result }
 {
@@ -73,7 +73,7 @@ pub fn set_up(receiver: &mut Receiver, req: SetupReq) -> u8
     }
 }
 
-/// A payload of port 201, by unicast: a DataFragment of session 0 is heard, with a mark that is the caller's own.
+/// Takes a payload of port 201, by unicast: a DataFragment of session 0 is heard, with a mark that the caller chooses.
 pub fn hear(receiver: &mut Receiver, payload: &[u8], mark: u64)
     requires { length payload.now ≤ max_payload }
     ensures { Hears receiver.old receiver.new payload.now mark }
@@ -97,7 +97,7 @@ fn feed(receiver: &mut Receiver, n: u16, part: &[u8], mark: u64)
     };
 }
 
-/// What the session shows, if there is one.
+/// Returns what the session shows, where there is one.
 pub fn view(receiver: &Receiver) -> Option<View<'_>>
     ensures { (s : Option Session) → ReceiverStands (size_of receiver.now) receiver.now s
         → option_map seen result ≡ view_of s }
@@ -109,7 +109,7 @@ pub fn view(receiver: &Receiver) -> Option<View<'_>>
     }
 }
 
-/// The answer to FragSessionStatusReq that came by unicast, if one is due.
+/// Answers a FragSessionStatusReq that came by unicast, where an answer is due.
 pub fn status(receiver: &Receiver, all: bool) -> Option<StatusAns>
     ensures { Answers receiver.now all result }
 {

@@ -1,4 +1,4 @@
-//! What a device tells beside its sessions: its counters, and what was received to run next.
+//! What a device shows besides its sessions: its counters, and what was received to run next.
 
 ghost use Rattle.std.specs.Prelude.{◌≡◌};
 ghost use Rattle.device_core.specs.Firmware.{after_migration};
@@ -32,7 +32,7 @@ pub struct NextFields {
     pub state: u8,
 }
 
-/// The counters: done.
+/// Writes the counters: done.
 #[unsafe(no_mangle)]
 pub extern "C" fn fuota_device_counts(
     handle: &mut DeviceHandle,
@@ -64,7 +64,7 @@ fn counts_of(counts: Counts) -> CountsFields
     }
 }
 
-/// What was received to run next is to the device: done.
+/// Writes what the file that was received to run next is to the device: done.
 #[unsafe(no_mangle)]
 pub extern "C" fn fuota_device_next(
     handle: &mut DeviceHandle,
@@ -120,7 +120,7 @@ fn image_number(state: ImageState) -> u8
     }
 }
 
-/// Both image formats are known from now on, and what was received to run next is read again: done.
+/// Makes both image formats known from now on, and reads what was received to run next again: done.
 #[unsafe(no_mangle)]
 pub extern "C" fn fuota_device_raise(handle: &mut DeviceHandle, alloc: Global) -> u8
     ensures { Does handle.old.held handle.new.held

@@ -30,7 +30,7 @@ use Rattle.fuota_run.specs.Answer.{Answer, answer, read_fault, usage, image_refu
 use Rattle.fuota_run.specs.Ending.{OutsideFiles, HoldsInvocation, HoldsForm, Gives, Effects, Ends, AppendsAnswer, AppendsAnswerFront, IsPlayed, HasText, IsCaused, IsReadUp, IsImageRead, IsSoundAnswer, IsSoundOver, ends_source}
 use Rattle.fuota_run.specs.HeldAnswer.{IsUnreadAnswer, IsMadeOf, IsTextAnswer, IsImageFault, IsImageAnswer}
 
--- where nothing is told of the files, nothing is asked of their names
+-- where nothing is known of the files, nothing is asked of their names
 none_asked : (what : Option Invocation) → HoldsInvocation None what
 none_asked None = tt
 none_asked (Some (plays what image script)) = (tt, tt)
@@ -241,7 +241,7 @@ sound_generated seed files a quiet made = record {
 
 -- ---- the answers that they give
 
--- a source that is too long holds so many bytes, or nothing is told of it
+-- a source that is too long holds so many bytes, or nothing is known of it
 pub long_source : (held : Option Held) (name : List ℕ) (limit : ℕ) → HoldsName held name → IsTooLong held name limit
     → (bytes : List ℕ) × (limit < length bytes) × IsSource held name limit bytes
 long_source None name limit holds long =
@@ -277,7 +277,7 @@ short_script : (what : ScriptForm) (image script : List ℕ) → length script �
 unfolding script_answer
 short_script what image script within = script_given script (λ bytes. played (world_answer what) (campaign_of image (said_in bytes))) within
 
--- of an image, whatever the script
+-- for an image, whatever the script
 by_image : (held : Option Held) (what : ScriptForm) (image_name script_name image : List ℕ) (limit : ℕ) (a : Answer)
     → IsSource held image_name limit image → ((script : Option (List ℕ)) → a ≡ campaign_answer what (Some image) script)
     → Gives held (Some (plays what image_name script_name)) a

@@ -1,4 +1,4 @@
--- What is told after a script's lines.
+-- The answer after a script's lines.
 use Rattle.std.proofs.Common.{◌≡◌, inl, inr, ℕ, List, ◌++◌, codes, Some, None, Result, Ok, Err, sym, subst}
 use Rattle.std.specs.Fmt.{decimal}
 use Rattle.report_lines.specs.declared.faults.LineFault.{LineFault}
@@ -46,7 +46,7 @@ summary_behind held seed summary text so_far sums never is (inl memory) = absurd
 summary_behind held seed summary text (Err fault) sums never is (inr refused) = absurd (never (error.Line fault) refused)
 summary_behind held seed summary text (Ok w) sums never is (inr stands) = summary_answered seed w summary text (sums w stands.1 stands.0) is
 
--- and it is told of the script
+-- and it is the script's
 pub script_answered : (tell : WorldState → Answer) (image script : List ℕ) (r : Result Answer LineError) → IsPlayed tell (end_result (read_lines (Ok (first_world image)) (said_in script))) r
     → IsPlayed tell (campaign_of image (said_in script)) r
 unfolding campaign_of

@@ -21,7 +21,7 @@ use Rattle.fuota_run.specs.Words.{Invocation}
 use Rattle.fuota_run.specs.Answer.{Answer, answer, file_text, text_answer, IsReadAnswer, IsFileAnswer, IsAnswerTo, IsAnswer}
 use Rattle.fuota_run.specs.Headline.{IsFileHandedIn, IsCaptureAnswered, IsCaptureRun}
 
--- what is told of a file within its limit is what its words are answered
+-- the answer to the words is that for a file within its limit
 file_answered : (words : List (List ℕ)) (held : Held) (what : FileForm) (file : List ℕ) → IsFileHandedIn words held what file
     → (a : Answer) → IsAnswer words held a → (said : Result (List ℕ) LineFault) × file_text what file said × (a ≡ text_answer said)
 unfolding IsAnswer IsFileAnswer

@@ -19,7 +19,7 @@ use Rattle.fuota_run.specs.declared.forms.ScriptForm.TheVariants.{Campaign, Reco
 use Rattle.fuota_run.specs.Answer.{Answer, answer, not_complete, recovered, world_answer, summary_answer, played, script_answer, campaign_answer, generate_answer, IsAnswerTo, IsAnswer}
 use Rattle.fuota_run.specs.Headline.{AreHandedIn, IsRecoveryAnswered, IsSeedAnswered}
 
--- the answer is what is told of the campaign
+-- the answer is the campaign's
 told : (words : List (List ℕ)) (held : Held) (what : ScriptForm) (image script : List ℕ) (world : WorldState)
     → AreHandedIn words held what image script → campaign_of image (said_in script) ≡ Ok world
     → (a : Answer) → IsAnswer words held a → a ≡ world_answer what world

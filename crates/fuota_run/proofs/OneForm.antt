@@ -1,4 +1,4 @@
--- The words of one form, as its command alone reads them.
+-- The words of one form, as its command reads them by itself.
 use Rattle.std.proofs.Common.{◌≡◌, ◌≢◌, ◌≤◌, ◌-◌, Bool, true, false, ℕ, suc, length, take, drop, arith, List, [], ◌∷◌, codes, map, slice_get, get_or, inl, inr, is_some, Option, Some, None, option_and_then, unwrap_or, if◌then◌else◌, refl, sym, ap, subst, ◌∙◌}
 use Rattle.std.specs.Str.{bytes_eq}
 use Rattle.std.proofs.lemmas.List.{take_all}

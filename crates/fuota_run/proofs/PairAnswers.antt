@@ -19,14 +19,14 @@ use Rattle.fuota_run.specs.Ending.{Gives, IsImageRead}
 use Rattle.fuota_run.specs.HeldAnswer.{IsTextAnswer}
 use Rattle.fuota_run.proofs.AnswerLemmas.{IsMade, image_long, image_given_refused, image_given, script_long, script_given, long_source, text_made}
 
--- of the first image, whatever the second one and the script
+-- for the first image, whatever the second one and the script
 by_first : (held : Option Held) (name_a name_b script_name image_a : List ℕ) (a : Answer) → IsSource held name_a image_limit image_a
     → ((image_b script : Option (List ℕ)) → a ≡ campaigns_answer (Some image_a) image_b script) → Gives held (Some (plays_two name_a name_b script_name)) a
 by_first None name_a name_b script_name image_a a source is = (image_a, [], [], is (Some []) (Some []))
 by_first (Some h) name_a name_b script_name image_a a source is =
     is (h name_b) (h script_name) ∙ ap (λ (i : Option (List ℕ)). campaigns_answer i (h name_b) (h script_name)) (sym source)
 
--- of both images, whatever the script
+-- for both images, whatever the script
 by_second : (held : Option Held) (name_a name_b script_name image_a image_b : List ℕ) (a : Answer) → IsSource held name_a image_limit image_a
     → IsSource held name_b image_limit image_b → ((script : Option (List ℕ)) → a ≡ campaigns_answer (Some image_a) (Some image_b) script)
     → Gives held (Some (plays_two name_a name_b script_name)) a
@@ -118,7 +118,7 @@ gives_pair held name_a name_b script_name image_a image_b script a first second 
 
 -- ---- after the script
 
--- what is told of two campaigns that were all read
+-- the answer for two campaigns that were all read
 told_of : (pair : PairState) (r : Result (List ℕ) LineError) (a : Answer) → IsPairReport pair r → IsTextAnswer r a
     → a ≡ played pair_answer (pair_end (Ok pair))
 told_of pair (Ok text) a report said =
@@ -126,7 +126,7 @@ told_of pair (Ok text) a report said =
 told_of pair (Err (error.Line fault)) a report said = said ∙ sym (ap (played pair_answer) report)
 told_of pair (Err error.Memory) a report said = absurd said
 
--- what is told after the lines that a pair has heard: its report, or the first refused line
+-- the answer after the lines that a pair has heard: its report, or the first refused line
 told_behind : (held : HeldPair) (r : Result (List ℕ) LineError) (so_far : Result PairState LineFault) (a : Answer)
     → ((pair : PairState) → PairStands held pair → held.kept ≡ None → IsPairReport pair r)
     → ((e : LineError) → held.kept ≡ Some e → r ≡ Err e) → PairIsIf held so_far → IsTextAnswer r a

@@ -1,4 +1,4 @@
--- What is told of a campaign whose lines were all accepted.
+-- The answer for a campaign whose lines were all accepted.
 use Rattle.std.proofs.Common.{◌≡◌, ℕ, List, ◌++◌, codes, Result, Ok, Err, ap, ◌∙◌}
 use Rattle.std.specs.Fmt.{decimal}
 use Rattle.report_lines.specs.declared.faults.LineError.{LineError}
@@ -17,13 +17,13 @@ abbrev pub done_with : Result (List ℕ) LineError → Result Answer LineError
 done_with (Ok text) = Ok (answer status.Done text)
 done_with (Err e) = Err e
 
--- a report is told
+-- the answer is a report
 pub report_answered : (w : WorldState) (r : Result (List ℕ) LineError) → IsReport w r → IsPlayed (world_answer Campaign) (end_result (Ok w)) (done_with r)
 report_answered w (Ok text) report = (w, report.0, ap (λ (t : List ℕ). answer status.Done t) report.1)
 report_answered w (Err (error.Line fault)) report = report
 report_answered w (Err error.Memory) report = tt
 
--- a recovery is told
+-- the answer is a recovery
 pub recovery_answered : (device : ℕ) (w : WorldState) (r : Result Answer LineError) → end_result (Ok w) ≡ Ok w
     → IsRecovery (recovered device (recovery w device)) r → IsPlayed (world_answer (Recover device)) (end_result (Ok w)) r
 recovery_answered device w (Ok x) is made = (w, is, made)
@@ -35,7 +35,7 @@ pub unended_answered : (tell : WorldState → Answer) (w : WorldState) (e : Line
 unended_answered tell w (error.Line fault) is = is
 unended_answered tell w error.Memory is = tt
 
--- a summary is told
+-- the answer is a summary
 pub summary_answered : (seed : ℕ) (w : WorldState) (summary text : List ℕ) → IsSummary w (Ok summary)
     → text ≡ codes "generate " ++ decimal seed ++ (codes "\n" ++ summary) → IsPlayed (summary_answer seed) (end_result (Ok w)) (Ok (answer status.Done text))
 summary_answered seed w summary text sums is =

@@ -45,7 +45,7 @@ usage_text = codes "usage: fuota campaign IMAGE SCRIPT, recover IMAGE SCRIPT DEV
 abbrev pub usage : Answer
 usage = answer status.Usage usage_text
 
--- a line is refused
+-- the answer for a refused line
 abbrev pub refused : LineFault → Answer
 refused fault = answer status.ScriptRefused (fault_line fault)
 
@@ -69,17 +69,17 @@ no_file_word no_file.Receiving = codes "receiving"
 no_file_word no_file.NoRows = codes "norows"
 no_file_word no_file.Conflict = codes "conflict"
 
--- a device has no file: it stands so
+-- the answer for a device without a file: why it has none
 abbrev pub not_complete : (device : ℕ) → NoFile → Answer
 not_complete device why =
     answer status.NotComplete (codes "device " ++ decimal device ++ (codes " " ++ no_file_word why ++ codes "\n"))
 
--- the file that a device recovered
+-- the answer with the file that a device recovered
 abbrev pub recovered : (device : ℕ) → Result (List ℕ) NoFile → Answer
 recovered device (Ok file) = answer status.Done file
 recovered device (Err why) = not_complete device why
 
--- what each form tells of a campaign
+-- the answer of each form for a campaign
 abbrev pub world_answer : ScriptForm → WorldState → Answer
 world_answer Campaign world = answer status.Done (report_of world)
 world_answer (Recover device) world = recovered device (recovery world device)
@@ -92,12 +92,12 @@ summary_answer seed world = answer status.Done (codes "generate " ++ decimal see
 abbrev pub pair_answer : PairState → Answer
 pair_answer pair = answer status.Done (pair_report_of pair)
 
--- the answer with what is told of a campaign, or of two, or the first refused line
+-- the answer for a campaign, or for two, or for the first refused line
 abbrev pub played : {W : Type 0} → (tell : W → Answer) → Result W LineFault → Answer
 played tell (Ok world) = tell world
 played tell (Err fault) = refused fault
 
--- of an image first that it is too long, then that it is no image file; then the answer after it
+-- for an image, first that it is too long, then that it is no image file; then the answer after it
 abbrev pub behind_image : Option (List ℕ) → (List ℕ → Answer) → Answer
 behind_image None behind = read_fault
 behind_image (Some image) behind =
@@ -105,7 +105,7 @@ behind_image (Some image) behind =
     else if is_image image then behind image
     else image_refused
 
--- of a script first that it is too long; then what is told of it
+-- for a script, first that it is too long; then the answer over it
 abbrev pub behind_script : Option (List ℕ) → (List ℕ → Answer) → Answer
 behind_script None told = read_fault
 behind_script (Some script) told =
@@ -116,7 +116,7 @@ unfoldable pub script_answer : ScriptForm → List ℕ → Option (List ℕ) →
 script_answer what image script =
     behind_script script (λ bytes. played (world_answer what) (campaign_of image (said_in bytes)))
 
--- the answer to `campaign IMAGE SCRIPT` and to `recover IMAGE SCRIPT DEVICE`: of the image, then of the script
+-- the answer to `campaign IMAGE SCRIPT` and to `recover IMAGE SCRIPT DEVICE`: for the image, then for the script
 unfoldable pub campaign_answer : ScriptForm → Option (List ℕ) → Option (List ℕ) → Answer
 campaign_answer what image script = behind_image image (λ bytes. script_answer what bytes script)
 
@@ -125,7 +125,7 @@ unfoldable pub pair_script_answer : (image_a image_b : List ℕ) → Option (Lis
 pair_script_answer image_a image_b script =
     behind_script script (λ bytes. played pair_answer (campaigns_in image_a image_b bytes))
 
--- the answer to `campaigns IMAGE IMAGE SCRIPT`: of the first image, then of the second one, then of the script
+-- the answer to `campaigns IMAGE IMAGE SCRIPT`: for the first image, then for the second one, then for the script
 unfoldable pub campaigns_answer : (image_a image_b script : Option (List ℕ)) → Answer
 campaigns_answer image_a image_b script =
     behind_image image_a (λ a. behind_image image_b (λ b. pair_script_answer a b script))
@@ -136,12 +136,12 @@ file_text Replay = Replays
 file_text (Decode port direction) = Decodes port direction
 file_text Capture = Captures
 
--- the answer with what is told of a file of payloads: its text, or its first refused line
+-- the answer for a file of payloads: its text, or its first refused line
 abbrev pub text_answer : Result (List ℕ) LineFault → Answer
 text_answer (Ok text) = answer status.Done text
 text_answer (Err fault) = refused fault
 
--- the answer to a file of payloads that was read: it is too long, or what is told of it
+-- the answer to a file of payloads that was read: it is too long, or its text
 abbrev pub IsReadAnswer : FileText → Bool → List ℕ → Answer → Type 0
 IsReadAnswer Tells true file a = a ≡ too_long script_limit
 IsReadAnswer Tells false file a = (said : Result (List ℕ) LineFault) × Tells file said × (a ≡ text_answer said)
@@ -151,7 +151,7 @@ unfoldable pub IsFileAnswer : FileText → Option (List ℕ) → Answer → Type
 IsFileAnswer Tells None a = a ≡ read_fault
 IsFileAnswer Tells (Some file) a = IsReadAnswer Tells (nat_lt script_limit (length file)) file a
 
--- the answer to `generate SEED`: the campaign of the seed's image and script, summed up
+-- the answer to `generate SEED`: the summary of the campaign of the seed's image and script
 unfoldable pub generate_answer : (seed : ℕ) → Answer
 generate_answer seed = played (summary_answer seed) (campaign_of (image_of seed) (said_in (script_of seed)))
 

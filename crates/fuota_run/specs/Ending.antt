@@ -14,7 +14,7 @@ use Rattle.fuota_run.specs.Source.{IsSource, IsTakenOf}
 use Rattle.fuota_run.specs.Words.{Invocation, plays, payloads, generates, plays_two, asked, asks_files}
 use Rattle.fuota_run.specs.Answer.{Answer, answer, read_fault, usage, file_text, campaign_answer, campaigns_answer, generate_answer, IsFileAnswer, IsAnswerTo, IsAnswer}
 
--- where it is told what is held, something is held under the names of the files that are asked for
+-- where it is known what the files hold, something is held under the names of the files that are asked for
 abbrev pub HoldsInvocation : Option Held → Option Invocation → Type 0
 HoldsInvocation held None = ⊤
 HoldsInvocation held (Some (plays what image script)) = HoldsName held image × HoldsName held script
@@ -27,7 +27,7 @@ abbrev pub HoldsForm : Option Held → List (List ℕ) → Type 0
 HoldsForm None words = ⊤
 HoldsForm (Some held) words = HoldsInvocation (Some held) (asked words)
 
--- what is told of a campaign, or its first refused line
+-- the answer for a campaign, or its first refused line
 abbrev pub IsPlayed : (tell : WorldState → Answer) → Result WorldState LineFault → Result Answer LineError → Type 0
 IsPlayed tell outcome (Ok a) = (world : WorldState) × (outcome ≡ Ok world) × (a ≡ tell world)
 IsPlayed tell outcome (Err (error.Line fault)) = outcome ≡ Err fault
@@ -47,7 +47,7 @@ ends_source status.ScriptRefused = true
 ends_source status.NotComplete = true
 ends_source s = false
 
--- the answer to what is asked for, whatever bytes the files have
+-- the answer to what is asked for, for any bytes of the files
 abbrev pub IsAnswerToSome : Option Invocation → Answer → Type 0
 IsAnswerToSome None a = a ≡ usage
 IsAnswerToSome (Some (plays what image_name script_name)) a =
@@ -62,11 +62,11 @@ abbrev pub Gives : Option Held → Option Invocation → Answer → Type 0
 Gives None what a = IsAnswerToSome what a
 Gives (Some held) what a = IsAnswerTo what held a
 
--- an answer is what is to be given, or that reading failed, and the count of faults rose
+-- an answer that must be given, or that reading failed, and the count of faults rose
 abbrev pub IsGivenOrFault : Type 0 → (before now : ℕ) → Answer → Type 0
 IsGivenOrFault gives before now a = gives ⊎ ((a ≡ read_fault) × HasRisen before now)
 
--- that reading failed is said only where the count of faults rose
+-- the answer is that reading failed only where the count of faults rose
 abbrev pub IsCaused : (before now : ℕ) → Answer → Type 0
 IsCaused before now a = a.status ≡ status.ReadFault → HasRisen before now × (a ≡ read_fault)
 
@@ -82,21 +82,21 @@ pub record OutsideFiles : Type 0 where
   pub after : ℕ
   pub left : Option (List ℕ)
 
--- what is said of an answer to what is asked for, over the files
+-- what holds for an answer to what is asked for, over the files
 pub record IsSoundAnswer (what : Option Invocation) (files : OutsideFiles) (a : Answer) : Type 0 where
   pub answered : IsGivenOrFault (Gives files.held what a) files.before files.after a
   pub has_text : HasText a.status
-  -- that reading failed is said exactly where a call failed
+  -- the answer is that reading failed exactly where a call failed
   pub caused : IsCaused files.before files.after a
   pub quiet : a.status ≢ status.ReadFault → files.after ≡ files.before
   pub read_up : IsReadUp (asks_files what) a.status files.left
-  -- usage is said exactly where nothing is asked for
+  -- the answer is the usage exactly where nothing is asked for
   pub usage : (a.status ≡ status.Usage) ↔ (what ≡ None)
-  -- of a source that is too long so many bytes were taken
+  -- so many bytes were taken of a source that is too long
   pub taken : (taken : ℕ) → a.status ≡ status.TooLong taken → IsTakenOf files.held what taken files.left
 
--- what is said of an answer over files that hold this, whose count of faults was the one and is the other, and of which this
--- is left of the file chosen last
+-- what holds for an answer over files that hold this, whose count of faults was the one and is the other; this is left of the
+-- file chosen last
 abbrev pub IsSoundOver : Option Held → (before after : ℕ) → Option (List ℕ) → Option Invocation → Answer → Type 0
 IsSoundOver held before after left what a =
     IsSoundAnswer what (record { held = held; before = before; after = after; left = left }) a
@@ -109,12 +109,12 @@ pub record IsImageRead (held : Option Held) (name image : List ℕ) : Type 0 whe
 
 -- ---- the run as a whole
 
--- where it is told what the files hold, no count of faults rose and memory sufficed, this is so of what they hold
+-- where it is known what the files hold, no count of faults rose and memory sufficed, this holds for what they hold
 abbrev pub WhereNoneFails : Option Held → (files_before files_after out_before out_after : ℕ) → Status → (Held → Type 0) → Type 0
 WhereNoneFails held files_before files_after out_before out_after s Claim = IfSome held (λ h.
     ¬ HasRisen files_before files_after → ¬ HasRisen out_before out_after → s ≢ status.Memory → Claim h)
 
--- the status is that of the answer, and its text was appended; where nothing is told of the files, of an answer to some bytes
+-- the status is that of the answer, and its text was appended; where no file is known, that of an answer to some bytes
 abbrev pub AppendsAnswer : Option Held → List (List ℕ) → Status → Option (List ℕ) → Option (List ℕ) → Type 0
 AppendsAnswer None words s old new = (text : List ℕ) × IsAnswerToSome (asked words) (answer s text) × Appends old new text
 AppendsAnswer (Some held) words s old new = (a : Answer) × IsAnswer words held a × (s ≡ a.status) × Appends old new a.text
@@ -133,8 +133,8 @@ pub record Effects : Type 0 where
   pub old : Option (List ℕ)
   pub new : Option (List ℕ)
 
--- what each status says: a fault of reading is a rise of the files' count, and is said so; a fault of writing is a rise of
--- the sink's, and left a front of the text; want of memory wrote nothing; each other status is the answer's, with its text
+-- what each status says: a fault of reading is a rise of the files' count; a fault of writing is a rise of the sink's, and left a
+-- front of the text; where memory was missing nothing was written; each other status is the answer's, with its text
 abbrev pub Ends : Option Held → List (List ℕ) → Effects → Status → Type 0
 Ends held words e status.ReadFault = HasRisen e.files_before e.files_after × Appends e.old e.new read_fault.text
 Ends held words e status.WriteFault =
@@ -148,7 +148,7 @@ Ends held words e status.ScriptRefused = AppendsAnswer held words status.ScriptR
 Ends held words e status.NotComplete = AppendsAnswer held words status.NotComplete e.old e.new
 Ends held words e (status.TooLong taken) = AppendsAnswer held words (status.TooLong taken) e.old e.new
 
--- what is answered to words that are no form, unless writing failed or memory was wanting
+-- the answer to words that are no form, unless writing failed or memory was missing
 abbrev pub IsNoForm : Status → Type 0
 IsNoForm status.Usage = ⊤
 IsNoForm status.WriteFault = ⊤
@@ -160,7 +160,7 @@ IsNoForm status.NotComplete = ⊥
 IsNoForm status.ReadFault = ⊥
 IsNoForm (status.TooLong taken) = ⊥
 
--- the sink's last call was a finish that was Ok, but where writing failed or memory was wanting
+-- the sink's last call was a finish that was Ok, except where writing failed or memory was missing
 abbrev pub IsFinished : Status → Bool → Type 0
 IsFinished status.WriteFault finished = ⊤
 IsFinished status.Memory finished = ⊤
@@ -178,7 +178,7 @@ IsFinished (status.TooLong taken) finished = finished ≡ true
 abbrev pub IsAnswered : Held → List (List ℕ) → Status → Type 0
 IsAnswered held words s = (text : List ℕ) × IsAnswer words held (answer s text)
 
--- no fault is told, and only want of memory is free
+-- no fault comes, only missing memory may
 abbrev pub IsSure : Held → List (List ℕ) → Status → Type 0
 IsSure held words status.Memory = Unit {0}
 IsSure held words status.ReadFault = ⊥

@@ -58,7 +58,7 @@ pub record OtherCountsAreNone : Type 0 where
 
 -- ---- the files that are asked for
 
--- whatever the words: their names are among them, and a run needs no others to be held
+-- for any words, their names are among them, and a run needs no others to be held
 pub record NamesAreWords : Type 0 where
   pub among : (words : List Text) → AllByRecursion (Contains words) (names_asked (asked words))
   pub enough : (held : Held) (words : List Text) → AllByRecursion (λ name. IsSome (held name)) (names_asked (asked words)) → HoldsForm (Some held) words

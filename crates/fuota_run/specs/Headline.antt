@@ -47,13 +47,13 @@ pub record AreHandedIn (words : List (List ℕ)) (held : Held) (what : ScriptFor
   pub script_short : length script ≤ script_limit
   pub image_fine : is_image image ≡ true
 
--- whatever image and accepted script are handed in, the answer is the report of that campaign
+-- for any image and any accepted script, the answer is the report of that campaign
 abbrev pub IsReportAnswered : Type 0
 IsReportAnswered = (words : List (List ℕ)) (held : Held) (image script : List ℕ) (world : WorldState) → AreHandedIn words held Campaign image script
     → campaign_of image (said_in script) ≡ Ok world → (a : Answer) → IsAnswer words held a → a ≡ answer status.Done (report_of world)
 
--- whatever image and accepted script are handed in, what is recovered of a device that has its file is answered, where the script
--- is honest the image; and else the answer says so
+-- for any image and any accepted script, the answer is the file of a device that has one, which is the image where the script is
+-- honest; and else it says why there is none
 pub record IsRecoveryAnswered : Type 0 where
   pub file_is : (words : List (List ℕ)) (held : Held) (device : ℕ) (image script : List ℕ) (world : WorldState) (file : List ℕ)
       → AreHandedIn words held (Recover device) image script
@@ -68,7 +68,7 @@ pub record IsRecoveryAnswered : Type 0 where
       → campaign_of image (said_in script) ≡ Ok world → recovery world device ≡ Err why → (a : Answer) → IsAnswer words held a
       → a ≡ not_complete device why
 
--- whatever payloads are handed in that are replayed to their end, the answer is the text of the device that heard them
+-- for any payloads that are replayed to their end, the answer is the text of the device that heard them
 abbrev pub IsReplayAnswered : Type 0
 IsReplayAnswered = (words : List (List ℕ)) (held : Held) (name file : List ℕ) (device : DeviceState) → asked words ≡ Some (payloads Replay name)
     → held name ≡ Some file → length file ≤ script_limit → Reaches (lines_of file) (Ok device) → (a : Answer) → IsAnswer words held a
@@ -81,9 +81,8 @@ pub record IsFileHandedIn (words : List (List ℕ)) (held : Held) (what : FileFo
   pub file_held : held name ≡ Some file
   pub short : length file ≤ script_limit
 
--- whatever capture is handed in whose lines are all accepted, the answer is the text of what was caught of them;
--- where all its payloads go down on port 201, it has its entries and then, from the counts on, what a replay of them
--- is answered
+-- for any capture whose lines are all accepted, the answer is the text of what was caught of them; where all its payloads go down
+-- on port 201, it has its entries and then, from the counts on, the answer to a replay of them
 pub record IsCaptureAnswered : Type 0 where
   pub text_is : (words : List (List ℕ)) (held : Held) (file : List ℕ) (all : Caught)
       → IsFileHandedIn words held Capture file → CatchesAll (lines_of file) (Ok all)
@@ -96,7 +95,7 @@ pub record IsCaptureAnswered : Type 0 where
       × (a ≡ answer status.Done (codes "fuota capture 1\n" ++ (entries_text 1 items ++ closing_text device)))
       × (replay ≡ answer status.Done (codes "fuota replay 1\n" ++ closing_text device))
 
--- so a capture was written whose payloads all go down on port 201: its entries, and then, from the counts on, what is told of the
+-- so a capture was written whose payloads all go down on port 201: its entries, and then, from the counts on, the text of the
 -- replay of the same payloads
 pub record IsCaptureWritten (replay_file : List ℕ) (items : List Entry) (old new : Option (List ℕ)) : Type 0 where
   pub device : DeviceState
@@ -107,7 +106,7 @@ abbrev pub IsCaptureRun : List (List ℕ) → Held → Status → Option (List �
 IsCaptureRun words held s old new = (file replay_file : List ℕ) (items : List Entry) → IsFileHandedIn words held Capture file
     → IsReplayOf file replay_file items → s ≡ status.Done → IsCaptureWritten replay_file items old new
 
--- whatever seed is asked for, no line of its campaign is refused, and the answer is what that comes to
+-- for any seed, no line of its campaign is refused, and the answer is its summary
 abbrev pub IsSeedAnswered : Type 0
 IsSeedAnswered = (words : List (List ℕ)) (held : Held) (seed : ℕ) → asked words ≡ Some (generates seed)
     → (world : WorldState) × IsCampaignOf seed world × ((a : Answer) → IsAnswer words held a → a ≡ summary_answer seed world)
@@ -142,7 +141,7 @@ pub record IsReportWritten (image script : List ℕ) (world : WorldState) (s : S
   pub verdicts : (id : ℕ) (device : DeviceState) (index : ℕ) (s : Session) → IsSessionOf image (said_in script) world id device index s
       → IsVerdict image script world id device index s
 
--- so it is of whatever image and accepted script the words ask for
+-- so it is for any image and any accepted script that the words ask for
 abbrev pub IsCampaignRun : List (List ℕ) → Held → Status → Option (List ℕ) → Option (List ℕ) → Type 0
 IsCampaignRun words held s old new = (image script : List ℕ) (world : WorldState) → AreHandedIn words held Campaign image script
     → All (λ b. b < 2 ^ 8) image → campaign_of image (said_in script) ≡ Ok world → IsReportWritten image script world s old new
@@ -151,7 +150,7 @@ IsCampaignRun words held s old new = (image script : List ℕ) (world : WorldSta
 abbrev pub IsWritten : Answer → Status → Option (List ℕ) → Option (List ℕ) → Type 0
 IsWritten a s old new = (s ≡ a.status) × Appends old new a.text
 
--- of a device that has its file that was appended, where the script is honest the image, and of one that has none how it stands
+-- the file of a device that has one was appended, which is the image where the script is honest; else why the device has none
 pub record IsRecoveryWritten (image script : List ℕ) (world : WorldState) (device : ℕ) (s : Status) (old new : Option (List ℕ)) : Type 0 where
   pub file_is : (file : List ℕ) → recovery world device ≡ Ok file → IsWritten (answer status.Done file) s old new
   pub image_is : (file : List ℕ) → All (λ b. b < 2 ^ 8) image → AreHonest 0 (said_in script) → recovery world device ≡ Ok file → IsWritten (answer status.Done image) s old new

@@ -1,4 +1,4 @@
--- An answer as it is made, and what it answers.
+-- An answer while it is made, and what it answers.
 use Rattle.std.specs.Prelude.{◌≡◌, ◌≢◌, ℕ, ◌+◌, ◌≤◌, false, List, length, ⊤, Result, Ok, Err}
 use Rattle.std.specs.Io.KnownBytes.{IsAtEnd}
 use Rattle.image_slots.specs.Image.{is_image}
@@ -24,25 +24,25 @@ abbrev pub seen_answer : Result Made LineError → Result Answer LineError
 seen_answer (Ok r) = Ok (answer_in r)
 seen_answer (Err e) = Err e
 
--- the answer with what a campaign made, or its first refused line; for want of memory there is none
+-- the answer of a campaign, or its first refused line; there is none where memory was missing
 abbrev pub IsMadeOf : Result Answer LineError → Answer → Type 0
 IsMadeOf (Ok x) a = a ≡ x
 IsMadeOf (Err (world.Line fault)) a = a ≡ refused fault
 IsMadeOf (Err world.Memory) a = ⊥
 
--- the answer, unless memory was wanting
+-- the answer, unless memory was missing
 abbrev pub IsRecovery : Answer → Result Answer LineError → Type 0
 IsRecovery a (Ok x) = x ≡ a
 IsRecovery a (Err (world.Line fault)) = ⊥
 IsRecovery a (Err world.Memory) = ⊤
 
--- the answer for a source that was not read; for want of memory there is none
+-- the answer for a source that was not read; there is none where memory was missing
 abbrev pub IsUnreadAnswer : SourceError → Answer → Type 0
 IsUnreadAnswer error.Memory a = ⊥
 IsUnreadAnswer error.Failed a = a ≡ read_fault
 IsUnreadAnswer (error.TooLong taken) a = a ≡ answer (status.TooLong taken) (taken_text taken)
 
--- the answer with what a file made: its text, or its first refused line; for want of memory there is none
+-- the answer of a file: its text, or its first refused line; there is none where memory was missing
 abbrev pub IsTextAnswer : Result (List ℕ) LineError → Answer → Type 0
 IsTextAnswer (Ok text) a = a ≡ answer status.Done text
 IsTextAnswer (Err (world.Line fault)) a = a ≡ refused fault
@@ -71,7 +71,7 @@ abbrev pub IsImageFault : OutsideFiles → (name : List ℕ) → ImageError → 
 IsImageFault files name (Unread e) = IsUnreadImage files name e
 IsImageFault files name Refused = IsNoImage files name
 
--- the answer for an image that was not taken; for want of memory there is none
+-- the answer for an image that was not taken; there is none where memory was missing
 abbrev pub IsImageAnswer : ImageError → Answer → Type 0
 IsImageAnswer (Unread e) a = IsUnreadAnswer e a
 IsImageAnswer Refused a = a ≡ image_refused

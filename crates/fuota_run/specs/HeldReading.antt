@@ -1,4 +1,4 @@
--- What a call keeps that reads a file to its end, or to one byte more than a limit.
+-- What a call promises that reads a file to its end, or to one byte more than a limit.
 use Rattle.std.specs.Prelude.{◌≡◌, ◌≢◌, ℕ, ◌+◌, ◌≤◌, Bool, true, List, Option, Result, Err, IfOk, OnOk, OnErr, IsErrOf}
 use Rattle.std.specs.Io.KnownBytes.{IsAtEnd}
 use Rattle.fuota_run.specs.declared.source.SourceError.{SourceError}
@@ -19,22 +19,22 @@ pub record ReadsSource {T : Type 0} (finds : T → Type 0) (held held_now : Opti
   -- a fault is answered exactly where one was counted
   pub failed : IsErrOf result Failed → HasRisen faults faults_now
   pub quiet : result ≢ Err Failed → faults_now ≡ faults
-  -- the files are as they were
+  -- the files are unchanged
   pub same : held_now ≡ held
 
--- One piece more was read, of a file that is chosen, after which so many bytes were taken. What is seen of the files stands
--- before and after.
+-- One piece more was read, of a file that is chosen, after which so many bytes were taken; what is seen of the files before and
+-- after.
 pub record ReadsPiece (before after most : ℕ) (is_chosen : Bool) (old_held new_held : Option Held) (faults faults_now : ℕ)
     (left : Option (List ℕ)) (result : Result ℕ SourceError) : Type 0 where
   pub taken : IfOk result (λ n. after ≡ before + n)
   pub within : OnOk result (after ≤ most)
-  -- nothing more comes at the file's end alone
+  -- only at the file's end nothing more comes
   pub end : IfOk result (λ n. n ≡ 0 → IsAtEnd left)
   -- a fault is answered exactly where one was counted
   pub failed : IsErrOf result Failed → HasRisen faults faults_now
   pub quiet : result ≢ Err Failed → faults_now ≡ faults
   pub not_long : (taken : ℕ) → result ≢ Err (TooLong taken)
-  -- the files are as they were, and the file is chosen still
+  -- the files are unchanged, and the file is still chosen
   pub chosen : is_chosen ≡ true
   pub held : new_held ≡ old_held
 
@@ -43,11 +43,11 @@ pub record HearsPiece {E : Type 0} (hears : ℕ → Type 0) (most : ℕ) (is_cho
     (left : Option (List ℕ)) (result : Result ℕ E) : Type 0 where
   pub heard : IfOk result hears
   pub within : IfOk result (λ n. n ≤ most)
-  -- nothing more comes at the file's end alone
+  -- only at the file's end nothing more comes
   pub end : IfOk result (λ n. n ≡ 0 → IsAtEnd left)
   -- a fault is answered exactly where one was counted
   pub failed : OnErr result (HasRisen faults faults_now)
   pub quiet : OnOk result (faults_now ≡ faults)
-  -- the files are as they were, and the file is chosen still
+  -- the files are unchanged, and the file is still chosen
   pub chosen : is_chosen ≡ true
   pub held : new_held ≡ old_held

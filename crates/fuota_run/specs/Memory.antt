@@ -46,7 +46,7 @@ abbrev pub faults_after : {T E : Type 0} → Result T E → ℕ → ℕ
 faults_after (Ok done) faults = faults
 faults_after (Err failed) faults = next_call faults
 
--- what a call counts that goes by a schedule: itself, and a fault where it failed; which calls fail stays as it was
+-- how a call changes a schedule: it is counted, and a fault where it failed; which calls fail stays as it was
 pub record IsCounted {T E : Type 0} (old_faults new_faults old_calls new_calls : ℕ) (old_fails new_fails : List ℕ) (result : Result T E) : Type 0 where
   pub cause : HasCause old_faults new_faults result
   pub faults : new_faults ≡ faults_after result old_faults

@@ -1,4 +1,4 @@
--- What is told of files and of a sink, and when one of their calls may fail.
+-- What files and a sink tell, and when one of their calls may fail.
 use Rattle.std.specs.Io.KnownBytes.{Appends}
 use Rattle.std.specs.Prelude.{◌≡◌, ℕ, ◌+◌, ◌-◌, ◌^◌, ◌≤◌, ◌<◌, min, List, ◌++◌, take, ⊤, Option, None, Some, IsSome, Result, OnOk, OnErr, MatchResult}
 
@@ -6,12 +6,12 @@ use Rattle.std.specs.Prelude.{◌≡◌, ℕ, ◌+◌, ◌-◌, ◌^◌, ◌≤�
 abbrev pub Held : Type 0
 Held = List ℕ → Option (List ℕ)
 
--- where it is told what is held, something is held under the name
+-- where the files tell what they hold, something is held under the name
 abbrev pub HoldsName : Option Held → List ℕ → Type 0
 HoldsName None name = ⊤
 HoldsName (Some held) name = IsSome (held name)
 
--- where it is told what is held, the bytes that are left are all those that the name holds
+-- where the files tell what they hold, the bytes that are left are all those of the name
 abbrev pub IsWhole : Option Held → List ℕ → Option (List ℕ) → Type 0
 IsWhole None name left = ⊤
 IsWhole (Some held) name left = left ≡ held name
@@ -32,7 +32,7 @@ AtMost r room = MatchResult r (λ n. n ≤ room) (λ _. ⊤)
 abbrev pub TakesSome : {E : Type 0} → Result ℕ E → ℕ → Type 0
 TakesSome r len = MatchResult r (λ n. (n ≤ len) × (0 < len → 0 < n)) (λ _. ⊤)
 
--- these bytes were read from the name so far, and those are left: together they are all that it holds, where that is told
+-- these bytes were read from the name so far, and those are left: together they are all that it holds, where the files tell it
 abbrev pub IsReadSoFar : Option Held → List ℕ → List ℕ → Option (List ℕ) → Type 0
 IsReadSoFar None name bytes left = ⊤
 IsReadSoFar (Some held) name bytes None = ⊥

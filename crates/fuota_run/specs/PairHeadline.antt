@@ -1,5 +1,5 @@
--- The program answers two campaigns of one script with the report of both, and of each holds what holds of one campaign,
--- over what the lines say to it. (This project's profile.)
+-- The program answers two campaigns of one script with the report of both, and what holds for one campaign holds for each, over
+-- what the lines say to it. (This project's profile.)
 use Rattle.std.specs.Prelude.{◌≡◌, ℕ, ◌^◌, ◌<◌, ◌≤◌, List, length, All, true, Option, Some, Ok}
 use Rattle.std.specs.Io.KnownBytes.{Appends}
 use Rattle.image_slots.specs.Image.{is_image}
@@ -49,7 +49,7 @@ pub record ArePairHandedIn (words : List (List ℕ)) (held : Held) (image_a imag
   pub script_held : held script_name ≡ Some script
   pub script_short : length script ≤ script_limit
 
--- whatever two images and accepted script are handed in, the answer is the report of those two campaigns
+-- for any two images and any accepted script, the answer is the report of those two campaigns
 abbrev pub IsPairAnswered : Type 0
 IsPairAnswered = (words : List (List ℕ)) (held : Held) (image_a image_b script : List ℕ) (pair : PairState)
     → ArePairHandedIn words held image_a image_b script → campaigns_in image_a image_b script ≡ Ok pair
@@ -72,7 +72,7 @@ pub record IsVerdictOfTwo (x : Campaign) (image_a image_b script : List ℕ) (pa
 pub record IsOneOfTwo (x : Campaign) (image_a image_b script : List ℕ) (pair : PairState) : Type 0 where
   -- it is the campaign that its own image, and what the lines say to it, define
   pub own : campaign_of (image_of x image_a image_b) (lines_for x image_a image_b script) ≡ Ok (side pair x)
-  -- each of its devices is its own first record, after what the lines let happen at it alone
+  -- each of its devices is its own first record, changed only by what the lines let happen at it
   pub devices : (id : ℕ) → let world = side pair x in
       numbered world.devices id ≡ own_record (lines_for x image_a image_b script) world.server.plan.group world.sent id
   pub verdicts : (id : ℕ) (device : DeviceState) (index : ℕ) (s : Session)
@@ -90,12 +90,12 @@ pub record IsHeadlineOfTwo (x : Campaign) (image_a image_b script : List ℕ) (p
   -- the session is the one for its own campaign's image, and hears nothing but what the lines bring it
   pub served : IsServed (image_of x image_a image_b) (side pair x).server device.config.rows session
   pub brought : HearsBrought (image_of x image_a image_b) (lines_for x image_a image_b script) (side pair x) id session
-  -- it is complete from the first heard fragment on after which one file alone fits, that image, unless its rows do not suffice first
+  -- it is complete from the first heard fragment on after which only one file fits, that image, unless its rows run out first
   pub recovered : IsRecovered (image_of x image_a image_b) session
   -- and the device's lines in the report say so
   pub told : IsToldOf x (image_of x image_a image_b) pair id stage device session
 
--- what is said of a campaign of the two beside the other
+-- what is said of one campaign of the two next to the other
 pub record IsApartOfTwo (x : Campaign) (image_a image_b script : List ℕ) (pair : PairState) : Type 0 where
   -- a device has no session but its own campaign's
   pub one : (id : ℕ) (device : DeviceState) → numbered (side pair x).devices id ≡ Some device
@@ -104,10 +104,10 @@ pub record IsApartOfTwo (x : Campaign) (image_a image_b script : List ℕ) (pair
   pub headline : (id : ℕ) (stage : Stage) (device : DeviceState) (session : Session)
       → HasSession x image_a image_b (lines_of script) pair id stage device session
       → IsHeadlineOfTwo x image_a image_b script pair id stage device session
-  -- each of its devices has an ID in the script, and its lines stand in the report in that place
+  -- each of its devices has an ID in the script, and its lines are in the report in that place
   pub placed : (number : ℕ) (device : DeviceState) → numbered (side pair x).devices number ≡ Some device
       → (id : ℕ) × IsPlaced x pair number id
-  -- and nothing that the other sends changes more of it than the counters of its devices
+  -- and nothing that the other sends changes more than the counters of its devices
   pub isolated : (alone : WorldState)
       × IsAlone (image_of x image_a image_b) (lines_alone x image_a image_b (lines_of script)) (side pair x) alone
 
@@ -125,7 +125,7 @@ pub record IsPairWritten (image_a image_b script : List ℕ) (pair : PairState) 
   pub apart : (x : Campaign) → All (λ b. b < 2 ^ 8) image_a → All (λ b. b < 2 ^ 8) image_b
       → IsApartOfTwo x image_a image_b script pair
 
--- so it is of whatever two images and accepted script the words ask for
+-- so it is for any two images and any accepted script that the words ask for
 abbrev pub IsPairRun : List (List ℕ) → Held → Status → Option (List ℕ) → Option (List ℕ) → Type 0
 IsPairRun words held s old new = (image_a image_b script : List ℕ) (pair : PairState)
     → ArePairHandedIn words held image_a image_b script → campaigns_in image_a image_b script ≡ Ok pair

@@ -1,4 +1,4 @@
--- What is seen of the system's files and of the standard output: nothing of what they hold.
+-- What is seen of the system's files and of the standard output; what they hold is not known.
 use Rattle.std.specs.Prelude.{ℕ, Bool}
 
 -- of the files: whether the last `choose` was Ok, and how many calls have failed

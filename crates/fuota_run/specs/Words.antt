@@ -17,7 +17,7 @@ use Rattle.script_lines.specs.Numbers.{decimal_of, ◌>>=◌}
 
 -- ---- the command
 
--- a word that stands at its place and must be there
+-- a word that must be at its place
 abbrev pub positional : Text → Rule
 positional name = record (new_rule name) { required = true }
 
@@ -74,8 +74,8 @@ parsed words = where_none (fault_of fuota words) (subcommand_of fuota words)
 
 -- ---- what is asked for
 
--- what is told of the campaign of an image and a script, or of a file of payloads, or of the campaign that a seed makes,
--- or of the two campaigns of two images and a script
+-- what is asked of the campaign of an image and a script, or of a file of payloads, or of the campaign that a seed makes, or of
+-- the two campaigns of two images and a script
 pub data Invocation : Type 0 where
   plays : (what : ScriptForm) (image script : List ℕ) → Invocation
   payloads : (what : FileForm) (file : List ℕ) → Invocation
@@ -185,7 +185,7 @@ asks_files (Some (plays_two image_a image_b script)) = true
 
 -- ---- as it is held
 
--- the same with the words as they were handed in
+-- the same with the words as they came
 abbrev pub seen_asked : Option Read → Option Invocation
 seen_asked None = None
 seen_asked (Some (read.Script what image script)) = Some (plays what image.now script.now)

@@ -61,7 +61,7 @@ pub record AreAnswers : Type 0 where
   pub capital_up : direction_of_word (codes "Up") ≡ None
   pub no_direction : direction_of_word (codes "") ≡ None
 
--- of two campaigns the first image is told of before the second, and both before the script, whatever comes after
+-- of two campaigns the answer is for the first image before the second, and for both before the script, whatever comes after
 pub record AreInOrder : Type 0 where
   pub first_missing : (b script : Option (List ℕ)) → campaigns_answer None b script ≡ read_fault
   pub first_refused : (a : List ℕ) (b script : Option (List ℕ)) → nat_lt image_limit (length a) ≡ false → is_image a ≡ false
@@ -74,7 +74,7 @@ pub record AreInOrder : Type 0 where
       → campaigns_answer (Some a) b script ≡ too_long image_limit
   pub second_long : (a b : List ℕ) (script : Option (List ℕ)) → nat_lt image_limit (length a) ≡ false → is_image a ≡ true
       → nat_lt image_limit (length b) ≡ true → campaigns_answer (Some a) (Some b) script ≡ too_long image_limit
-  -- of one campaign too; and a script that is missing or too long is told of after the image
+  -- of one campaign too; and for a script that is missing or too long after the image
   pub missing : (what : ScriptForm) (script : Option (List ℕ)) → campaign_answer what None script ≡ read_fault
   pub long : (what : ScriptForm) (image : List ℕ) (script : Option (List ℕ)) → nat_lt image_limit (length image) ≡ true
       → campaign_answer what (Some image) script ≡ too_long image_limit

@@ -1,4 +1,4 @@
-//! The answers of a run as they are made: with a text, and where a source or a line is refused.
+//! The answers of a run: with a text, and where a source or a line is refused.
 
 ghost use Rattle.std.specs.Prelude.{◌≡◌, IfOk};
 ghost use Rattle.fuota_run.specs.Answer.{answer, refused};
@@ -10,14 +10,14 @@ use crate::status::Status;
 use report_lines::{LineError, LineFault, fault_line};
 use std::alloc::{AllocError, Global};
 
-/// What a run answers: its status, and the text that is written with it.
+/// The answer of a run: its status, and the text that is written with it.
 #[derive(Drop)]
 pub struct Answer {
     pub status: Status,
     pub text: Vec<u8>,
 }
 
-/// An answer with a fixed text.
+/// Makes an answer with a fixed text.
 pub fn answer_with(alloc: Global, status: Status, text: &str) -> Result<Answer, AllocError>
     ensures { IfOk result (λ r. answer_in r ≡ answer status text.now) }
 {
@@ -27,7 +27,7 @@ pub fn answer_with(alloc: Global, status: Status, text: &str) -> Result<Answer, 
     })
 }
 
-/// The answer for a source that was not read.
+/// Makes the answer for a source that was not read.
 pub fn unread_answer(alloc: Global, error: SourceError) -> Result<Answer, AllocError>
     ensures { IfOk result (λ r. IsUnreadAnswer error (answer_in r)) }
 {
@@ -41,7 +41,7 @@ pub fn unread_answer(alloc: Global, error: SourceError) -> Result<Answer, AllocE
     }
 }
 
-/// The answer with the text that a file made, or for its first refused line.
+/// Makes the answer with the text that a file made, or for its first refused line.
 pub fn text_answer(alloc: Global, said: Result<Vec<u8>, LineError>) -> Result<Answer, AllocError>
     ensures { IfOk result (λ r. IsTextAnswer (seen_text said) (answer_in r)) }
 {
@@ -55,7 +55,7 @@ pub fn text_answer(alloc: Global, said: Result<Vec<u8>, LineError>) -> Result<An
     }
 }
 
-/// The answer that a campaign made, or for its first refused line.
+/// Makes the answer for a campaign, or for its first refused line.
 pub fn answer_of(alloc: Global, made: Result<Answer, LineError>) -> Result<Answer, AllocError>
     ensures { IfOk result (λ r. IsMadeOf (seen_answer made) (answer_in r)) }
 {

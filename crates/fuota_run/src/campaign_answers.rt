@@ -1,4 +1,4 @@
-//! What is told of a campaign: its report, the file that a device recovered, or its summary.
+//! The answers for a campaign: its report, the file that a device recovered, or its summary.
 
 ghost use Rattle.std.specs.Prelude.{◌≡◌, ◌++◌, true, Result, IfOk, codes};
 ghost use Rattle.std.specs.Fmt.{decimal};
@@ -23,7 +23,7 @@ use report_lines::LineError;
 use script_lines::{Lines, hear_last, hear_piece};
 use std::alloc::{AllocError, Global};
 
-/// The summary of the campaign that image and script define.
+/// Makes the summary of the campaign that image and script define.
 pub fn seed_answer(
     alloc: Global,
     seed: u32,
@@ -77,7 +77,7 @@ fn first_line_of(alloc: Global, seed: u32) -> Result<String, AllocError>
     format!(in alloc; "generate {seed}\n")
 }
 
-/// What is told of a campaign after the lines that it has heard.
+/// Makes the answer for a campaign after the lines that it has heard.
 pub fn world_answer(alloc: Global, what: ScriptForm, world: &World) -> Result<Answer, LineError>
     ensures { (so_far : Result WorldState LineFault) → WorldIsIf world.now so_far
         → IsPlayed (world_answer what) (end_result so_far) (seen_answer result) }
@@ -97,7 +97,7 @@ pub fn world_answer(alloc: Global, what: ScriptForm, world: &World) -> Result<An
     }
 }
 
-/// The file that a device recovered, or how it stands.
+/// The file that a device recovered, or why it has none.
 fn recovery(alloc: Global, device: u8, world: &World) -> Result<Answer, LineError>
     ensures { (w : WorldState) → WorldStands world.now w
         → IsRecovery (recovered device (recovery w device)) (seen_answer result) }

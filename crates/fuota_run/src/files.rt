@@ -1,4 +1,4 @@
-//! Where files come from: a name is chosen, and its bytes are read piece by piece.
+//! Files: a name is chosen, and its bytes are read piece by piece.
 
 ghost use Rattle.std.specs.Prelude.{◌≡◌, ◌≤◌, Bool, true, List, ℕ, Option, length, is_ok, OnOk};
 ghost use Rattle.std.specs.Io.KnownBytes.{ReadConsumes};
@@ -6,17 +6,17 @@ ghost use Rattle.fuota_run.specs.Outside.{Held, HoldsName, IsWhole, HasCause, At
 
 use thiserror::Error;
 
-/// A call of the outside failed: a file could not be chosen or read, a sink could not be written.
+/// A call to the outside failed: a file could not be chosen or read, or a sink could not be written.
 #[derive(Clone, Copy, Debug, PartialEq, Eq, Error)]
 #[error("a call of the outside failed")]
 pub struct Failed;
 
 /// Files by name. One file is chosen at a time, and read from its start to its end.
 pub trait Files {
-    /// What each name holds, where this is told.
+    /// What each name holds, where the files tell it.
     ghost held: { Self → Option Held };
 
-    /// The bytes of the chosen file that are not yet read, where they are told.
+    /// The bytes of the chosen file that are not yet read, where the files tell them.
     ghost left: { Self → Option (List ℕ) };
 
     /// Whether the last `choose` was Ok.
@@ -33,8 +33,7 @@ pub trait Files {
         ensures held { held self.new ≡ held self.old }
         ensures cause { HasCause (faults self.old) (faults self.new) result };
 
-    /// Reads the next bytes into the buffer, and says how many. Into a buffer that is not empty,
-    /// 0 comes exactly at the end.
+    /// Reads the next bytes into the buffer, and returns how many. For a buffer that is not empty, 0 comes exactly at the end.
     fn read(&mut self, buf: &mut [u8]) -> Result<usize, Failed>
         requires { chosen self.old ≡ true }
         ensures within { AtMost result (length buf.new) }

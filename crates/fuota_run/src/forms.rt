@@ -5,13 +5,13 @@ use wire_base::Direction;
 /// What the words ask for.
 #[derive(Clone, Copy)]
 pub enum Invocation<'a> {
-    /// A form over a campaign: what is told of it.
+    /// A form over a campaign, and what it asks for.
     Script {
         what: ScriptForm,
         image: &'a str,
         script: &'a str,
     },
-    /// A form with one file of payloads: what is told of it.
+    /// A form with one file of payloads, and what it asks for.
     Payloads {
         what: FileForm,
         file: &'a str,
@@ -28,7 +28,7 @@ pub enum Invocation<'a> {
     },
 }
 
-/// What is told of a campaign.
+/// What a form asks for of a campaign.
 #[derive(Clone, Copy)]
 pub enum ScriptForm {
     /// `campaign IMAGE SCRIPT`: its report.
@@ -37,13 +37,13 @@ pub enum ScriptForm {
     Recover { device: u8 },
 }
 
-/// What is told of a file of payloads.
+/// What a form asks for of a file of payloads.
 #[derive(Clone, Copy)]
 pub enum FileForm {
-    /// `replay FILE`: where a device stands that hears them.
+    /// `replay FILE`: the state of a device that hears them.
     Replay,
     /// `decode PORT DIR FILE`: their commands; the port is 200 to 203.
     Decode { port: u8, dir: Direction },
-    /// `capture FILE`: of JSON objects both, each with its port and direction.
+    /// `capture FILE`: both for JSON objects, each with its port and direction.
     Capture,
 }

@@ -1,4 +1,4 @@
-//! A source heard line by line as it is read, in pieces.
+//! A source that is heard line by line while it is read in pieces.
 
 ghost use Rattle.std.specs.Prelude.{◌≡◌, ◌≢◌, ℕ, ◌+◌, ◌<◌, ◌≤◌, ◌^◌, true, List, length, Err, IfOk, OnOk, OnErr, IsErrOf};
 ghost use Rattle.std.specs.Io.KnownBytes.{IsAtEnd};
@@ -12,7 +12,7 @@ use crate::files::{Failed, Files};
 use crate::source::{PIECE, SourceError};
 use script_lines::{HearsLine, Lines, hear_last, hear_piece};
 
-/// Reads a file to its end, or to one byte more than the limit, and hands out its lines.
+/// Reads a file to its end, or to one byte more than the limit, and gives its lines to the hearer.
 pub fn hear_source<F: Files, W: HearsLine>(
     files: &mut F,
     name: &str,
@@ -49,7 +49,7 @@ pub fn hear_source<F: Files, W: HearsLine>(
     Err(SourceError::TooLong(limit + 1))
 }
 
-/// Reads a piece, and hands out the lines that end in it.
+/// Reads a piece, and gives the lines that end in it to the hearer.
 fn hear_some<F: Files, W: HearsLine>(
     files: &mut F,
     piece: &mut [u8],

@@ -1,4 +1,4 @@
-//! An image file as it is read, and what is answered where there is none.
+//! An image file as it is read, and the answer where there is none.
 
 ghost use Rattle.std.specs.Prelude.{◌≡◌, IfOk, IfErr, OnOk};
 ghost use Rattle.fuota_run.specs.Outside.{HoldsName};
@@ -27,7 +27,7 @@ pub enum ImageError {
     Refused,
 }
 
-/// The bytes of an image file, read to its end.
+/// Reads the bytes of an image file to its end.
 pub fn read_image<F: Files>(alloc: Global, files: &mut F, name: &str) -> Result<Vec<u8>, ImageError>
     requires { HoldsName (F.held files.old) name.now }
     ensures image { IfOk result (λ image. IsImageRead (F.held files.old) name.now image.items) }
@@ -51,7 +51,7 @@ pub fn read_image<F: Files>(alloc: Global, files: &mut F, name: &str) -> Result<
     }
 }
 
-/// The answer for an image that was not taken.
+/// Makes the answer for an image that was not taken.
 pub fn image_answer(alloc: Global, error: ImageError) -> Result<Answer, AllocError>
     ensures { IfOk result (λ r. IsImageAnswer error (answer_in r)) }
 {

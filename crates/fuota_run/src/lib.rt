@@ -1,8 +1,7 @@
-//! A run of the program: a campaign of a firmware update over LoRaWAN (TS003 to TS006, 1.0.0), or two of one script,
-//! the file that a device recovered, the campaign of a seed, and captured payloads, replayed, decoded or both.
-//! A run ends with the status and the text that its words and files define, and each other status says what failed.
-//! Campaigns are left to `campaign_world` and `pair_run`, payloads to `payload_replay`; the words and the system's
-//! runtime come from the program above.
+//! A run of the program: a campaign of a firmware update over LoRaWAN (TS003 to TS006, 1.0.0), or two of one script, the file
+//! that a device recovered, the campaign of a seed, and captured payloads, replayed, decoded or both. A run ends with the status
+//! and the text that its words and files define, and each other status says what failed. Campaigns are left to `campaign_world`
+//! and `pair_run`, payloads to `payload_replay`; the words and the system's runtime come from the program above.
 //!
 //!     let status = run(alloc, &words, &mut files, &mut out);   // files: StdFiles, MemFiles, SureFiles; out: StdSink, ..
 //!     let code = status.code();

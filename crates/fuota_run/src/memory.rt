@@ -32,7 +32,7 @@ impl Schedule {
         }
     }
 
-    /// Counts a call, and says whether it fails: exactly where its number is listed.
+    /// Counts a call, and says whether it fails, which is exactly where its number is listed.
     fn fails_now(&mut self) -> bool
         ensures listed { IsTrue result ↔ Contains self.old.fails.items (next_call self.old.calls) }
         ensures counted { self.new.calls ≡ next_call self.old.calls }
@@ -103,7 +103,7 @@ pub(crate) fn place_of(files: &[(String, Vec<u8>)], name: &str) -> Option<usize>
     None
 }
 
-/// Reads on after the first bytes, and says how many were read.
+/// Reads on after the first bytes, and returns how many were read.
 pub(crate) fn read_from(bytes: &[u8], from: usize, buf: &mut [u8]) -> usize
     ensures count { result ≡ min (length bytes.now - from) (length buf.new) }
     ensures within { result ≤ length buf.new }
@@ -129,8 +129,8 @@ pub(crate) fn bytes_in(files: &[(String, Vec<u8>)], place: Option<usize>) -> &[u
 }
 
 impl MemFiles {
-    /// Files by name, and the numbers of the calls that fail, counted from 1. Where two names are equal,
-    /// the first of them is the file of that name.
+    /// Makes files by name, with the numbers of the calls that fail, counted from 1. Where two names are equal, the first is the
+    /// file of that name.
     pub fn new(files: Vec<(String, Vec<u8>)>, fails: Vec<u64>) -> Self
         ensures files { result.files ≡ map (λ f. (string_bytes f.0, f.1.items)) files.items }
         ensures unchosen { (result.chosen ≡ false) × (result.left ≡ []) }
@@ -145,7 +145,7 @@ impl MemFiles {
         }
     }
 
-    /// Whether there is a file of that name.
+    /// Says whether there is a file of that name.
     pub fn holds(&self, name: &str) -> bool
         ensures { result ≡ is_some (held_by self.now.files name.now) }
     {
@@ -200,8 +200,8 @@ impl Files for MemFiles {
     }
 }
 
-/// A sink in memory, with room for so many bytes. A call fails exactly where its number is listed,
-/// and a `write` of a piece that is not empty also where no room is left.
+/// A sink in memory, with room for so many bytes. A call fails exactly where its number is listed, and a `write` of a piece that
+/// is not empty also where no room is left.
 #[derive(Drop)]
 pub struct MemSink {
     bytes: Vec<u8>,
@@ -229,7 +229,7 @@ impl Model for MemSink {
 }
 
 impl MemSink {
-    /// A sink with room for so many bytes, and the numbers of the calls that fail, counted from 1.
+    /// Takes the memory of a sink with room for so many bytes; `fails` has the numbers of the calls that fail, counted from 1.
     pub fn reserve(alloc: Global, room: u32, fails: Vec<u64>) -> Result<Self, AllocError>
         ensures empty { IfOk result (λ s. s.bytes ≡ []) }
         ensures unfinished { IfOk result (λ s. s.finished ≡ false) }
@@ -246,7 +246,7 @@ impl MemSink {
         })
     }
 
-    /// All bytes that were written.
+    /// Returns all bytes that were written.
     pub fn bytes(&self) -> &[u8]
         ensures all { result.now ≡ self.now.bytes }
         ensures within { length result.now ≤ self.now.room }

@@ -7,7 +7,7 @@ ghost use Rattle.fuota_run.specs.Outside.{HasRisen, AppendsFront};
 use crate::files::Failed;
 use crate::sink::Sink;
 
-/// Writes the text, piece after piece, and hands it on. Where a call fails, a front of the text was written.
+/// Writes the text, piece after piece, and finishes it. Where a call fails, a front of the text was written.
 pub fn write_text<O: Sink>(out: &mut O, text: &[u8]) -> Result<(), Failed>
     ensures written { OnOk result (Appends (O.written out.old) (O.written out.new) text.now) }
     ensures finished { OnOk result (O.finished out.new ≡ true) }

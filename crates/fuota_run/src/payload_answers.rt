@@ -1,4 +1,4 @@
-//! What is told of a file of payloads.
+//! The answers for a file of payloads.
 
 ghost use Rattle.std.specs.Prelude.{◌≡◌, [], Some, IfOk};
 ghost use Rattle.fuota_run.specs.Outside.{HoldsName};
@@ -18,7 +18,7 @@ use crate::source::SCRIPT_LIMIT;
 use payload_replay::{Capturing, Decoding, Replaying};
 use std::alloc::{AllocError, Global};
 
-/// The answer to a form with one file of payloads.
+/// Makes the answer to a form with one file of payloads.
 pub fn payloads<F: Files>(
     alloc: Global,
     files: &mut F,
@@ -48,7 +48,7 @@ pub fn payloads<F: Files>(
     }
 }
 
-/// The answer after the file of payloads that a new replay hears.
+/// The answer of a new replay after its file of payloads.
 fn hear_replay<F: Files>(
     alloc: Global,
     files: &mut F,
@@ -67,7 +67,7 @@ fn hear_replay<F: Files>(
     }
 }
 
-/// The answer after the file of payloads that a new decoding hears.
+/// The answer of a new decoding after its file of payloads.
 fn hear_decode<F: Files>(
     alloc: Global,
     files: &mut F,
@@ -86,7 +86,7 @@ fn hear_decode<F: Files>(
     }
 }
 
-/// The answer after the file of JSON lines that a new capture hears.
+/// The answer of a new capture after its file of JSON lines.
 fn hear_capture<F: Files>(
     alloc: Global,
     files: &mut F,

@@ -39,39 +39,39 @@ const USAGE: &str =
 /// Runs the program: `words` begin with its name, and the forms are `campaign IMAGE SCRIPT`,
 /// `recover IMAGE SCRIPT DEVICE`, `replay FILE`, `decode PORT DIR FILE`, `generate SEED`, `capture FILE` and
 /// `campaigns IMAGE IMAGE SCRIPT`.
-/// The whole text stands in memory before its first byte is written.
+/// The whole text is in memory before its first byte is written.
 pub fn run<F: Files, O: Sink>(alloc: Global, words: &[String], files: &mut F, out: &mut O) -> Status
     requires { HoldsForm (F.held files.old) (map string_bytes words.now) }
 
-    // Where it is told what the files hold, no count of faults rose and memory sufficed, status and text are those of the
-    // answer to the words.
+    // Where it is known what the files hold, no call failed and memory sufficed, status and text are those of the answer to the
+    // words.
     ensures exact { WhereNoneFails (F.held files.old)
         (F.faults files.old) (F.faults files.new) (O.faults out.old) (O.faults out.new) result
         (λ held. AppendsAnswer (Some held) (map string_bytes words.now) result
         (O.written out.old) (O.written out.new)) }
 
-    // So a campaign's whole report is written, and what it says of each device's session is its verdict at the first moment
-    // over what the lines bring. Where the script is honest, it is the headline: the session hears what the script delivers,
-    // and is complete from the first fragment on after which one file alone fits, the image.
+    // So a campaign's whole report is written, and what it says of each device's session is its verdict at the first moment over
+    // what the lines bring. Where the script is honest, it is the headline: the session hears what the script delivers, and is
+    // complete from the first fragment on after which only one file fits, the image.
     ensures headline { WhereNoneFails (F.held files.old)
         (F.faults files.old) (F.faults files.new) (O.faults out.old) (O.faults out.new) result
         (λ held. IsCampaignRun (map string_bytes words.now) held result
         (O.written out.old) (O.written out.new)) }
 
-    // And what is recovered of a device that has its file is that file, the image where the script is honest.
+    // And where a device has its file, that file is what `recover` writes; it is the image where the script is honest.
     ensures recovery { WhereNoneFails (F.held files.old)
         (F.faults files.old) (F.faults files.new) (O.faults out.old) (O.faults out.new) result
         (λ held. IsRecoveryRun (map string_bytes words.now) held result
         (O.written out.old) (O.written out.new)) }
 
-    // A capture whose payloads all go down on port 201 ends as the replay of them.
+    // A capture whose payloads all go down on port 201 ends as the replay of them does.
     ensures capture { WhereNoneFails (F.held files.old)
         (F.faults files.old) (F.faults files.new) (O.faults out.old) (O.faults out.new) result
         (λ held. IsCaptureRun (map string_bytes words.now) held result
         (O.written out.old) (O.written out.new)) }
 
-    // Of two campaigns the whole report of both is written, and what holds of one campaign over its lines holds of each
-    // of the two, over what the lines say to it: of its own image, of each of its devices and of each of their sessions.
+    // For two campaigns the whole report of both is written, and what holds for one campaign over its lines holds for each of the
+    // two, over what the lines say to it: for its own image, each of its devices and each of their sessions.
     ensures pair { WhereNoneFails (F.held files.old)
         (F.faults files.old) (F.faults files.new) (O.faults out.old) (O.faults out.new) result
         (λ held. IsPairRun (map string_bytes words.now) held result
@@ -86,19 +86,19 @@ pub fn run<F: Files, O: Sink>(alloc: Global, words: &[String], files: &mut F, ou
       old = O.written out.old;
       new = O.written out.new;
     }) result }
-    // No fault is passed over: where a call failed, the status says so, or that memory was wanting.
+    // No fault is skipped: where a call failed, the status says so, or that memory was missing.
     ensures faultless { IsFaultless result
         → (F.faults files.new ≡ F.faults files.old) × (O.faults out.new ≡ O.faults out.old) }
-    // Words that are no form are answered so, and no others.
+    // Words that are no form get this status, and no others do.
     ensures usage { result ≡ Status.Usage → asked (map string_bytes words.now) ≡ None }
     ensures no_form { asked (map string_bytes words.now) ≡ None → IsNoForm result }
     ensures finished { IsFinished result (O.finished out.new) }
     ensures whole { IsReadUp (asks_files (asked (map string_bytes words.now))) result
         (F.left files.new) }
-    // Words that name no file leave the files as they were.
+    // Words that name no file leave the files unchanged.
     ensures untouched { asks_files (asked (map string_bytes words.now)) ≡ false
         → files.new ≡ files.old }
-    // Where a source is too long, so many bytes of it were taken as the status says, and no more.
+    // Where a source is too long, exactly so many bytes of it were taken as the status says.
     ensures taken { (taken : ℕ) → result ≡ Status.TooLong taken
         → IsTakenOf (F.held files.old) (asked (map string_bytes words.now)) taken
         (F.left files.new) }
@@ -201,7 +201,7 @@ fn script<F: Files>(
     answer
 }
 
-/// The answer after the script that a new campaign hears.
+/// The answer of a new campaign after its script.
 fn hear_script<F: Files>(
     alloc: Global,
     files: &mut F,
@@ -289,7 +289,7 @@ fn pair_script<F: Files>(
     answer
 }
 
-/// The answer after the script that two new campaigns hear.
+/// The answer of two new campaigns after their script.
 fn hear_pair<F: Files>(
     alloc: Global,
     files: &mut F,

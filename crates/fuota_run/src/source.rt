@@ -13,7 +13,7 @@ use thiserror::Error;
 /// The most bytes of a script, and of a file of payloads.
 pub const SCRIPT_LIMIT: u32 = 1_048_576;
 
-/// How many bytes are asked for at a time.
+/// How many bytes one read asks for.
 pub const PIECE: usize = 4096;
 
 /// Why a source was not read.
@@ -30,7 +30,7 @@ pub enum SourceError {
     TooLong(u32),
 }
 
-/// All bytes of a file, read to its end, or to one byte more than the limit.
+/// Reads all bytes of a file, to its end, or to one byte more than the limit.
 pub fn read_source<F: Files>(
     alloc: Global,
     files: &mut F,
@@ -59,7 +59,7 @@ pub fn read_source<F: Files>(
     Err(SourceError::TooLong(limit + 1))
 }
 
-/// Reads one piece more, and says how long it is.
+/// Reads one piece more, and returns how long it is.
 fn read_piece<F: Files>(
     files: &mut F,
     bytes: &mut Vec<u8>,

@@ -2,7 +2,7 @@
 
 ghost use Rattle.std.specs.Prelude.{◌≡◌};
 
-/// How a run ended, and with it what was written.
+/// How a run ended, and what was written.
 #[derive(Clone, Copy, Debug, PartialEq, Eq)]
 pub enum Status {
     /// The command's text was written.
@@ -28,7 +28,7 @@ pub enum Status {
 impl Status {
     ghost use Rattle.fuota_run.specs.Exit.{exit_code};
 
-    /// The status that the program ends with.
+    /// Returns the status that the program ends with.
     pub fn code(self) -> u8
         ensures { result ≡ exit_code self }
     {

@@ -12,7 +12,7 @@ use crate::status::Status;
 use std::alloc::Global;
 use std::marker::Model;
 
-/// Files held in memory, no call of which fails.
+/// Files held in memory; their calls never fail.
 #[derive(Drop)]
 pub struct SureFiles {
     files: Vec<(String, Vec<u8>)>,
@@ -35,7 +35,7 @@ impl Model for SureFiles {
 }
 
 impl SureFiles {
-    /// Files by name, none of them chosen. Where two names are equal, the first of them is the file of that name.
+    /// Makes files by name, none of them chosen. Where two names are equal, the first is the file of that name.
     pub fn new(files: Vec<(String, Vec<u8>)>) -> Self
         ensures files { result.files ≡ map (λ f. (string_bytes f.0, f.1.items)) files.items }
         ensures unchosen { result.chosen ≡ false }
@@ -71,7 +71,7 @@ impl Files for SureFiles {
     }
 }
 
-/// A sink that takes all bytes and keeps none; no call of it fails. Contracts see whether it is finished.
+/// A sink that takes all bytes and keeps none; its calls never fail. Contracts see whether it is finished.
 #[derive(Debug, Drop)]
 pub struct SureSink {
     finished: bool,
@@ -86,7 +86,7 @@ impl Model for SureSink {
 }
 
 impl SureSink {
-    /// A sink to which nothing was written.
+    /// Makes a sink to which nothing was written.
     pub fn new() -> Self
         ensures { result ≡ false }
     {
@@ -112,8 +112,8 @@ impl Sink for SureSink {
     }
 }
 
-/// Runs the program where neither files nor sink can fail. It ends as its words and files say, unless memory was wanting: a
-/// fault of reading or writing is never answered.
+/// Runs the program where neither files nor sink can fail. It ends as its words and files say, unless memory was missing: a fault
+/// of reading or writing is never answered.
 pub fn run_surely(
     alloc: Global,
     words: &[String],

@@ -1,4 +1,4 @@
-//! The files and the standard output of the system. What they hold is not told; each failed call is counted.
+//! The files and the standard output of the system. Contracts don't know what they hold; each failed call is counted.
 
 ghost use Rattle.std.specs.Prelude.{◌≡◌, ◌-◌, ◌^◌, ◌≤◌, Bool, false, None};
 ghost use Rattle.fuota_run.specs.Outside.{HasRisen};
@@ -9,7 +9,7 @@ use std::fs;
 use std::io::Read;
 use std::marker::Model;
 
-/// How many calls failed; stops at the type's end.
+/// How many calls failed; the count stops at the type's end.
 #[derive(Drop)]
 struct FaultCount {
     faults: u64,
@@ -43,7 +43,7 @@ impl<'a, R: std::rt::Files> Model for StdFiles<'a, R> {
 }
 
 impl<'a, R: std::rt::Files> StdFiles<'a, R> {
-    /// The files that the runtime reaches, none of them chosen.
+    /// Makes the files of the runtime, none of them chosen.
     pub fn new(rt: &'a R) -> Self
         ensures unchosen { result.chosen ≡ false }
         ensures start { result.faults ≡ 0 }
@@ -106,7 +106,7 @@ impl<'a, P: Print> Model for StdSink<'a, P> {
 }
 
 impl<'a, P: Print> StdSink<'a, P> {
-    /// The standard output that the runtime reaches.
+    /// Makes the standard output of the runtime.
     pub fn new(to: &'a P) -> Self
         ensures unfinished { result.finished ≡ false }
         ensures start { result.faults ≡ 0 }
@@ -135,7 +135,7 @@ impl<P: Print> Sink for StdSink<'_, P> {
         }
     }
 
-    // Nothing is held back, so there is nothing to flush.
+    // Nothing is buffered here, so there is nothing to flush.
     fn finish(&mut self) -> Result<(), Failed> {
         self.finished = true;
         Ok(())

@@ -1,4 +1,4 @@
-//! What a word of the command line stands for.
+//! The values of the command line's words.
 
 ghost use Rattle.std.specs.Prelude.{◌≡◌};
 ghost use Rattle.fuota_run.specs.Words.{port_of_word, device_of_word, seed_of_word, direction_of_word};
@@ -6,7 +6,7 @@ ghost use Rattle.fuota_run.specs.Words.{port_of_word, device_of_word, seed_of_wo
 use script_lines::decimal;
 use wire_base::Direction;
 
-/// The port that a word spells, 200 to 203.
+/// Reads the port that a word spells, 200 to 203.
 pub fn port_of_word(word: &str) -> Option<u8>
     ensures { result ≡ port_of_word word.now }
 {
@@ -18,7 +18,7 @@ pub fn port_of_word(word: &str) -> Option<u8>
     }
 }
 
-/// The device that a word spells, 1 to 64.
+/// Reads the device that a word spells, 1 to 64.
 pub fn device_of_word(word: &str) -> Option<u8>
     ensures { result ≡ device_of_word word.now }
 {
@@ -30,7 +30,7 @@ pub fn device_of_word(word: &str) -> Option<u8>
     }
 }
 
-/// The seed that a word spells, 0 to 4,294,967,295.
+/// Reads the seed that a word spells, 0 to 4,294,967,295.
 pub fn seed_of_word(word: &str) -> Option<u32>
     ensures { result ≡ seed_of_word word.now }
 {
@@ -42,7 +42,7 @@ pub fn seed_of_word(word: &str) -> Option<u32>
     }
 }
 
-/// The direction that a word spells.
+/// Reads the direction that a word spells.
 pub fn direction_of_word(word: &str) -> Option<Direction>
     ensures { result ≡ direction_of_word word.now }
 {

@@ -11,7 +11,7 @@ use clap::error::{Error, ErrorKind};
 use clap::{Arg, ArgMatches, Command};
 use std::alloc::{AllocError, Global};
 
-/// What the words ask for, the first of them being the program's name; None exactly where they are no form.
+/// Reads what the words ask for; the first is the program's name. None exactly where they are no form.
 pub fn read_words<'a>(
     alloc: Global,
     words: &'a [String],
@@ -38,7 +38,7 @@ fn read_all<'a>(alloc: Global, words: &'a [String]) -> Result<Option<Invocation<
     }
 }
 
-/// The same by the one form that the first of these words names; the program's name stood before them.
+/// The same by the one form that the first of these words names; the program's name was before them.
 fn read_form<'a>(
     form: Command<'a>,
     words: &'a [String],
@@ -55,7 +55,7 @@ fn read_form<'a>(
     }
 }
 
-/// The form with a keyword, as a command of its own; None where there is none.
+/// The form with a keyword, as its own command; None where there is none.
 fn form_named<'a>(alloc: Global, keyword: &str) -> Result<Option<Command<'a>>, AllocError>
     ensures { IfOk result (λ o. option_map app_of o ≡ form_named keyword.now) }
 {
@@ -94,7 +94,7 @@ fn named<'a>(form: Result<Command<'a>, AllocError>) -> Result<Option<Command<'a>
     }
 }
 
-/// The words are no form, or memory was wanting.
+/// The words are no form, or memory was missing.
 fn no_form<'a>(error: &Error) -> Result<Option<Invocation<'a>>, AllocError>
     ensures { IfOk result (λ o. (o ≡ None) × (kind_of error.now ≢ kind.OutOfMemory)) }
 {
@@ -203,8 +203,8 @@ fn taking<'a>(alloc: Global, command: Command<'a>, name: &'a str) -> Result<Comm
     command.arg(Arg::new(alloc, name).required(true))
 }
 
-/// The command, with one form more, where there was memory for both. Neither is unpacked by the caller, who would give up
-/// one of them at each want of memory.
+/// The command, with one form more, where there was memory for both. The caller unpacks neither, so that it has to drop none of
+/// them where memory is missing.
 fn offering<'a>(
     command: Result<Command<'a>, AllocError>,
     form: Result<Command<'a>, AllocError>,

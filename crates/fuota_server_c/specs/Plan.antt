@@ -1,4 +1,4 @@
--- What a server is to do, as C tells it, and the server that comes of it.
+-- What a server has to do, as C says it, and the server that is made from it.
 use Rattle.std.specs.Prelude.{◌≡◌, ◌⊎◌, ℕ, Bool, true, false, List, length, map, Option, Some, None, Result, Ok, Err}
 use Rattle.image_slots.specs.Image.{is_image}
 use Rattle.mc_keys.specs.declared.root_kind.RootKind.{RootKind}
@@ -85,7 +85,7 @@ pub record IsWrong (image : List ℕ) (plan : Plan) (number : ℕ) : Type 0 wher
   pub first : bad_field (length image) plan ≡ Some field
   pub told : number ≡ field_number field
 
--- there is none: the image is no image file, a field is wrong, or memory was wanting
+-- there is none: the image is no image file, a field is wrong, or memory was missing
 abbrev pub IsNoServer : (image : List ℕ) → Plan → (old new answer : ℕ) → Type 0
 IsNoServer image plan old new answer =
     ((answer ≡ refused) × (is_image image ≡ false) × (new ≡ old))

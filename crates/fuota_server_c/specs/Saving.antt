@@ -1,4 +1,4 @@
--- What a server saves for C, and the server that comes back of such bytes.
+-- What a server saves for C, and the server that is restored from such bytes.
 use Rattle.std.specs.Prelude.{◌≡◌, ◌⊎◌, ℕ, true, List, length, Option, Some, None, Result, Ok, Err}
 use Rattle.image_slots.specs.Image.{is_image}
 use Rattle.campaign_server.specs.declared.saving.RestoreError.{RestoreError}

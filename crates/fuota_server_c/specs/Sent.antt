@@ -51,7 +51,7 @@ abbrev pub IsOut : Option Downlink → (none : ℕ) → (old new : DownFields) �
 IsOut None none old new answer = (answer ≡ none) × (new ≡ old)
 IsOut (Some down) none old new answer = (answer ≡ done) × IsDownOut down old new
 
--- ---- a payload that is told, as the frame that goes out
+-- ---- a payload, as its frame
 
 abbrev pub downlink_of : DownFields → Downlink
 downlink_of fields = record { to = to_of fields; port = fields.port; payload = take fields.length fields.payload }

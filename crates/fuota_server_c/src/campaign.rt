@@ -41,7 +41,7 @@ impl Campaign {
     ghost use Rattle.fuota_server_c.specs.Saving.{IsRestored};
     ghost use Rattle.fuota_server_c.specs.Sent.{has_device};
 
-    /// The server at the start of a campaign, or why there is none.
+    /// Makes the server at the start of a campaign, or says why there is none.
     pub fn new(alloc: Global, plan: Plan, image: &[u8]) -> Result<Campaign, ServerError>
         requires { is_image image.now ≡ true }
         ensures { IsMade image.now plan result }
@@ -54,7 +54,7 @@ impl Campaign {
         }
     }
 
-    /// The server that saved these bytes, or why there is none.
+    /// Restores the server that saved these bytes, or says why there is none.
     pub fn restore(
         alloc: Global,
         plan: Plan,
@@ -73,21 +73,21 @@ impl Campaign {
         }
     }
 
-    /// What it knows, as bytes that `restore` takes again.
+    /// Returns what it knows, as bytes that `restore` takes again.
     pub fn save(&self) -> SavedServer
         ensures { result.items ≡ saved_of self.now }
     {
         self.server.save()
     }
 
-    /// Whether the plan has a device of this number.
+    /// Says whether the plan has a device of this number.
     pub fn has_device(&self, dev: u8) -> bool
         ensures { result ≡ has_device self.now dev }
     {
         1 <= dev && dev as usize <= self.devices
     }
 
-    /// What is asked of a device, by unicast; None exactly at updated and refused.
+    /// Returns what is asked of a device, by unicast; None exactly at updated and refused.
     pub fn ask(&self, dev: u8) -> Option<Downlink>
         requires { has_device self.now dev ≡ true }
         ensures { result ≡ down_of (request_of self.now dev) }
@@ -95,7 +95,7 @@ impl Campaign {
         self.server.ask(dev)
     }
 
-    /// The next fragment to all devices.
+    /// Makes the next fragment to all devices.
     pub fn next_fragment(&mut self) -> Result<Downlink, Spent>
         ensures sent { result ≡ result_of (next_fragment self.old) }
         ensures moved { self.new ≡ after_fragment self.old }
@@ -103,7 +103,7 @@ impl Campaign {
         self.server.next_fragment()
     }
 
-    /// FragSessionStatusReq to all devices.
+    /// Makes a FragSessionStatusReq to all devices.
     pub fn status_all(&mut self) -> Option<Downlink>
         ensures sent { result ≡ down_of (status_to_all self.old) }
         ensures moved { self.new ≡ after_status_to_all self.old }
@@ -111,14 +111,14 @@ impl Campaign {
         self.server.status_all()
     }
 
-    /// Whether a payload has a frame: it is to the plan's group, and its port isn't 0.
+    /// Says whether a payload has a frame: it is to the plan's group, and its port isn't 0.
     pub fn has_frame(&self, down: &Downlink) -> bool
         ensures { result ≡ has_frame self.now.plan.group down.now }
     {
         self.server.has_frame(down)
     }
 
-    /// A payload to the plan's group as the frame that goes out.
+    /// Makes the frame of a payload to the plan's group.
     pub fn frame(&self, down: &Downlink) -> Frame
         requires { has_frame self.now.plan.group down.now ≡ true }
         ensures { result.items ≡ frame_for self.now.plan.group down.now }
@@ -126,7 +126,7 @@ impl Campaign {
         self.server.frame(down)
     }
 
-    /// An uplink of a device comes on a port, at `t` ms of GPS time.
+    /// Takes an uplink of a device on a port, at `t` ms of GPS time.
     pub fn uplink(
         &mut self,
         dev: u8,
@@ -141,7 +141,7 @@ impl Campaign {
         self.server.uplink(dev, port, payload, t)
     }
 
-    /// What a device told last of the campaign's session; None where it told nothing.
+    /// Returns what a device said last of the campaign's session; None where it said nothing.
     pub fn last_status(&self, dev: u8) -> Option<LastStatus>
         requires { has_device self.now dev ≡ true }
         ensures { Some result ≡ last_status self.now dev }
@@ -149,7 +149,7 @@ impl Campaign {
         self.server.last_status(dev)
     }
 
-    /// Where a device stands.
+    /// Returns the stage of a device.
     pub fn ledger(&self, dev: u8) -> Stage
         requires { has_device self.now dev ≡ true }
         ensures { Some result ≡ ledger self.now dev }

@@ -1,4 +1,4 @@
-//! A payload to the group as the multicast frame that goes out.
+//! A payload to the group as its multicast frame.
 
 ghost use Rattle.std.specs.Prelude.{◌≡◌, ◌≤◌};
 ghost use Rattle.wire_base.specs.Payload.{max_payload};
@@ -13,8 +13,8 @@ use package_grammar::{Downlink, To};
 use std::alloc::Global;
 use wire_base::{MAX_PAYLOAD, Payload};
 
-/// A payload to the plan's group as its frame of LoRaWAN 1.0.x, at most 255 bytes, to the front of `into`; their count, and 0
-/// where it is to others, on port 0 or longer than 242 bytes, where its frame has no room, or without a server.
+/// Writes a payload to the plan's group as its frame of LoRaWAN 1.0.x, at most 255 bytes, to the front of `into`, and returns
+/// their count; 0 where it is to others, on port 0 or longer than 242 bytes, where its frame has no room, or without a server.
 #[unsafe(no_mangle)]
 pub extern "C" fn fuota_server_frame(
     handle: &mut ServerHandle,

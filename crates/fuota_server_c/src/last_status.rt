@@ -1,4 +1,4 @@
-//! What a device told last of the campaign's session.
+//! What a device said last of the campaign's session.
 
 ghost use Rattle.std.specs.Prelude.{◌≡◌};
 ghost use Rattle.c_base.specs.Answer.{no_object};
@@ -11,7 +11,7 @@ use c_base::answer::{DONE, NO_OBJECT, NOTHING, RANGE};
 use campaign_server::LastStatus;
 use std::alloc::Global;
 
-/// What a device told in its last FragSessionStatusAns, as `LastStatus` of `campaign_server` has it.
+/// What a device said in its last FragSessionStatusAns, as `LastStatus` of `campaign_server` has it.
 #[repr(C)]
 #[derive(Drop)]
 pub struct StatusFields {
@@ -20,8 +20,8 @@ pub struct StatusFields {
     pub norows: bool,
 }
 
-/// What a device told last of the campaign's session: done; nothing where it told nothing; out of range where the plan has no
-/// device of this number.
+/// Writes what a device said last of the campaign's session: done; nothing where it said nothing; out of range where the plan has
+/// no device of this number.
 #[unsafe(no_mangle)]
 pub extern "C" fn fuota_server_last_status(
     handle: &mut ServerHandle,

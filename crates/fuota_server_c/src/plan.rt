@@ -1,4 +1,4 @@
-//! What a server is to do, as C tells it.
+//! What a server has to do, as C says it.
 
 ghost use Rattle.std.specs.Prelude.{◌≡◌, IfOk, map};
 ghost use Rattle.fuota_server_c.specs.Plan.{plan_of, group_of, window_of, kind_of, device_of, root_of, field_number};
@@ -15,7 +15,7 @@ pub struct PlanDeviceFields {
     pub is_v11: bool,
 }
 
-/// What a server is to do, but for the devices, as `Plan` of `campaign_server` has it.
+/// What a server has to do, without the devices, as `Plan` of `campaign_server` has it.
 #[repr(C)]
 #[derive(Drop)]
 pub struct PlanFields {
@@ -38,7 +38,7 @@ pub struct PlanFields {
     pub key: [u8; 16],
 }
 
-/// The plan of these fields, for these devices.
+/// Makes the plan of these fields, for these devices.
 pub fn plan_of(
     alloc: Global,
     fields: &PlanFields,
@@ -122,7 +122,7 @@ fn kind_of(is_class_b: bool, periodicity: u8) -> Kind
     }
 }
 
-/// The number of a field that is wrong.
+/// Returns the number of a field that is wrong.
 pub fn field_number(field: Field) -> u8
     ensures { result ≡ field_number field }
 {

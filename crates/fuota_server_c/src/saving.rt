@@ -1,4 +1,4 @@
-//! A server outlasts its process: what it saves, and the server that comes back of it.
+//! A server outlasts its process: what it saves, and the server that is restored from it.
 
 ghost use Rattle.std.specs.Prelude.{◌≡◌, true};
 ghost use Rattle.core.specs.Result.{result_map_both};
@@ -19,8 +19,8 @@ use campaign_server::RestoreError;
 use image_slots::is_image;
 use std::alloc::{AllocError, Global};
 
-/// What the server knows, as bytes for `fuota_server_restore`, to the front of `into`: 44 bytes and six for each device; their
-/// count, and 0 where they have no room, or without a server.
+/// Copies what the server knows, as bytes for `fuota_server_restore`, to the front of `into`: 44 bytes and six for each device;
+/// returns their count, and 0 where they have no room, or without a server.
 #[unsafe(no_mangle)]
 pub extern "C" fn fuota_server_save(
     handle: &mut ServerHandle,
@@ -41,8 +41,8 @@ pub extern "C" fn fuota_server_save(
     }
 }
 
-/// Frees what was there, and puts the server of this plan and image that saved these bytes into the handle, as
-/// `fuota_server_new` puts one at its start, with its answers; corrupt where no such server saved them.
+/// Frees what was there, and puts the server of this plan and image that saved these bytes into the handle, as `fuota_server_new`
+/// puts one at its start, with its answers; corrupt where no such server saved them.
 #[unsafe(no_mangle)]
 pub extern "C" fn fuota_server_restore(
     handle: &mut ServerHandle,

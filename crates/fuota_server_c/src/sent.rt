@@ -5,8 +5,8 @@ ghost use Rattle.fuota_server_c.specs.Sent.{IsDownOut};
 use c_base::put_whole;
 use package_grammar::{Downlink, To};
 
-/// A payload on its way to devices, its bytes the first `length` ones: by unicast, or to the multicast group with an
-/// address, with a frame count.
+/// A payload on its way to devices, its bytes the first `length`: by unicast, or to the multicast group with an address, with a
+/// frame count.
 #[repr(C)]
 #[derive(Drop)]
 pub struct DownFields {

@@ -20,9 +20,8 @@ use package_grammar::Downlink;
 use std::alloc::{AllocError, Global};
 use wire_base::MAX_PAYLOAD;
 
-/// Where a device stands: 0 at a request, 1 updated, 2 refused; the number of the request, and 0 at updated; the bits
-/// of the answer that refused, and else 0. Requests are 1 version, 2 group, 3 fragments, 4 window, 5 status, 6 image,
-/// 7 reboot, 8 check.
+/// The stage of a device: 0 at a request, 1 updated, 2 refused; the number of the request, and 0 at updated; the bits of the
+/// answer that refused, and else 0. Requests are 1 version, 2 group, 3 fragments, 4 window, 5 status, 6 image, 7 reboot, 8 check.
 #[repr(C)]
 #[derive(Drop)]
 pub struct StageFields {
@@ -86,16 +85,16 @@ fn boxed(
     }
 }
 
-/// Frees the server, if there is one; the handle has none afterwards.
+/// Frees the server, where there is one; the handle has none afterwards.
 #[unsafe(no_mangle)]
 pub extern "C" fn fuota_server_free(handle: &mut ServerHandle, alloc: Global)
     ensures { handle.new.held ≡ None }
 {
-    // Dropped here, and its memory with it.
+    // It is dropped here, and its memory with it.
     let _server = handle.take(alloc);
 }
 
-/// The next fragment to all devices: done; nothing where all were sent; spent where the group's frame counts are.
+/// Writes the next fragment to all devices: done; nothing where all were sent; spent where the group's frame counts are used up.
 #[unsafe(no_mangle)]
 pub extern "C" fn fuota_server_next_fragment(
     handle: &mut ServerHandle,
@@ -128,8 +127,8 @@ fn next_fragment(server: &mut Campaign, out: &mut DownFields) -> u8
     }
 }
 
-/// FragSessionStatusReq to all devices, answered by those that miss a fragment: done; spent where the group's frame
-/// counts are.
+/// Writes a FragSessionStatusReq to all devices, answered by those that miss a fragment: done; spent where the group's frame
+/// counts are used up.
 #[unsafe(no_mangle)]
 pub extern "C" fn fuota_server_status_all(
     handle: &mut ServerHandle,
@@ -161,8 +160,8 @@ fn put_or(down: Option<Downlink>, none: u8, out: &mut DownFields) -> u8
     }
 }
 
-/// What the server asks of a device now, by unicast: done; nothing where it is updated or refused; out of range where
-/// the plan has no device of this number. Devices are numbered from 1.
+/// Writes what the server asks of a device now, by unicast: done; nothing where it is updated or refused; out of range where the
+/// plan has no device of this number. Devices are numbered from 1.
 #[unsafe(no_mangle)]
 pub extern "C" fn fuota_server_ask(
     handle: &mut ServerHandle,
@@ -193,9 +192,9 @@ fn ask(server: &Campaign, dev: u8, out: &mut DownFields) -> u8
     put_or(server.ask(dev), NOTHING, out)
 }
 
-/// An uplink of a device came on a port, at `t` ms of GPS time, and its stage moves: done, with an answer to send;
-/// nothing, where none is due; refused where the payload spells no commands, out of range where the plan has no such
-/// device or the payload more than 242 bytes, and then nothing changes.
+/// Takes an uplink of a device on a port, at `t` ms of GPS time, which moves its stage: done, with an answer to send; nothing,
+/// where none is due; refused where the payload spells no commands, out of range where the plan has no such device or the payload
+/// more than 242 bytes, and then nothing changes.
 #[unsafe(no_mangle)]
 pub extern "C" fn fuota_server_uplink(
     handle: &mut ServerHandle,
@@ -241,7 +240,7 @@ fn uplink(
     }
 }
 
-/// Where a device stands: done; out of range where the plan has no device of this number.
+/// Writes the stage of a device: done; out of range where the plan has no device of this number.
 #[unsafe(no_mangle)]
 pub extern "C" fn fuota_server_ledger(
     handle: &mut ServerHandle,

@@ -25,7 +25,7 @@ impl Model for ServerHandle {
 }
 
 impl Drop for ServerHandle {
-    /// Frees the server, if there is one.
+    /// Frees the server, where there is one.
     fn drop(self) {
         // dropped at the end of this block
         let _server = self.into_handle().into_box();
@@ -33,14 +33,14 @@ impl Drop for ServerHandle {
 }
 
 impl ServerHandle {
-    /// The handle of a server.
+    /// Makes the handle of a server.
     pub fn of(server: Box<Campaign>) -> ServerHandle
         ensures { result.held ≡ Some server.value }
     {
         ServerHandle::of_handle(Handle::of(server))
     }
 
-    /// The server, if there is one, of which the handle then has none.
+    /// Takes the server out of the handle, where there is one.
     pub fn take(&mut self, alloc: Global) -> Option<Box<Campaign>>
         ensures value { option_map (λ b. b.value) result ≡ self.old.held }
         ensures none { self.new.held ≡ None }

@@ -16,7 +16,7 @@ image_start format = codes "FUIM" ++ format ∷ []
 unfoldable pub format_of : List ℕ → ℕ
 format_of file = slice_index file 4
 
--- how much further on the fields after the lowest hardware version lie
+-- how many bytes later the fields after the lowest hardware version are
 unfoldable pub further : List ℕ → ℕ
 further file = if format_of file == 2 then 4 else 0
 
@@ -54,11 +54,11 @@ is_image file =
 unfoldable pub is_for : List ℕ → (hw : ℕ) → Bool
 is_for file hw = nat_le (lowest_of file) hw && nat_le hw (highest_of file)
 
--- a device that knows format 1 alone does not know a file of format 2
+-- a device that knows only format 1 does not know a file of format 2
 unfoldable pub is_unknown : List ℕ → (formats : ℕ) → Bool
 is_unknown file formats = format_of file == 2 && formats == 1
 
--- what a file is to a device of some hardware version, which knows format 1 alone (formats 1) or both (formats 2)
+-- what a file is to a device of some hardware version, which knows only format 1 (formats 1) or both (formats 2)
 unfoldable pub image_state : List ℕ → (hw formats : ℕ) → ImageState
 image_state file hw formats =
     if is_image file && not (is_unknown file formats) then if is_for file hw then Valid (firmware_of file) else Incompatible else Corrupt

@@ -4,8 +4,8 @@ use Rattle.image_slots.specs.declared.view.ImageState.{ImageState}
 use Rattle.image_slots.specs.declared.view.ImageState.TheVariants.{None as Empty, Valid}
 use Rattle.image_slots.specs.Image.{image_state}
 
--- the formats that are known, 1 alone (1) or both (2); the version that runs and its file's bytes; what next is to this
--- device, and its file's bytes
+-- the formats that are known, only 1 (1) or both (2); the version that runs and its file's bytes; what next is to this device,
+-- and its file's bytes
 pub record Slots : Type 0 where
   pub formats : ℕ
   pub version : ℕ
@@ -33,7 +33,7 @@ after_swap slots = with_running slots slots.next
     with_running slots (Valid version) = without_next (record slots { version = version; running = slots.next_file })
     with_running slots other = slots
 
--- the answer to the wish to delete a version: bit 0 without a valid next, bit 1 where it has another version
+-- the answer to the request to delete a version: bit 0 without a valid next, bit 1 where it has another version
 abbrev pub delete_bits : ImageState → (version : ℕ) → ℕ
 delete_bits (Valid held) version = if held == version then 0 else 2
 delete_bits other version = 1

@@ -1,4 +1,4 @@
--- Image files, and what becomes of them in the slots, worked out (this project's profile).
+-- Image files, and what happens to them in the slots, worked out (this project's profile).
 use Rattle.std.specs.Prelude.{◌≡◌, ℕ, false, List, [], ◌∷◌, ◌++◌, take, drop, slice_set}
 use Rattle.image_slots.specs.declared.view.ImageState.{ImageState}
 use Rattle.image_slots.specs.declared.view.ImageState.TheVariants.{None, Corrupt, Incompatible, Valid}
@@ -59,10 +59,10 @@ pub record WorkedImages : Type 0 where
   pub shorter : is_image (take 51 worked_image) ≡ false
   pub cut : is_image (take 48 worked_image) ≡ false
   pub empty : is_image [] ≡ false
-  -- a file has no body at least, and 262,144 bytes at most
+  -- a file needs no body, and has at most 262,144 bytes
   pub bodiless_image : image_state bodiless 1 2 ≡ Valid 2
   pub most : max_image ≡ 262144
-  -- format 1 is what it was to a device that knows it alone
+  -- format 1 is what it was to a device that knows only it
   pub known : image_state worked_image 1 1 ≡ Valid 2
   -- format 2 is for the hardware versions between its two, and corrupt to a device that does not know it
   pub lowest_in : lowest_of ranged_image ≡ 1
@@ -112,7 +112,7 @@ pub record WorkedSlots : Type 0 where
   pub deleted : after_delete 9 (slots_with (Valid 9)) ≡ record { formats = 1; version = 7; running = 0x70 ∷ []; next = None; next_file = [] }
   pub kept : after_delete 7 (slots_with (Valid 9)) ≡ slots_with (Valid 9)
   pub kept_corrupt : after_delete 9 (slots_with Corrupt) ≡ slots_with Corrupt
-  -- a file of format 2 is corrupt to a device that knows format 1 alone, until it knows both; what runs stays
+  -- a file of format 2 is corrupt to a device that knows only format 1, until it knows both; what runs stays
   pub held : after_offer 3 ranged_image (slots_with None)
       ≡ record { formats = 1; version = 7; running = 0x70 ∷ []; next = Corrupt; next_file = ranged_image }
   pub raised : after_raise 3 (after_offer 3 ranged_image (slots_with None))

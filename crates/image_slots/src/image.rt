@@ -15,7 +15,7 @@ const HEAD: usize = 49;
 /// The most bytes of an image file.
 pub const MAX_IMAGE: usize = 262_144;
 
-/// How much further on the fields after the lowest hardware version lie: 4 bytes in format 2.
+/// How many bytes later the fields after the lowest hardware version are: 4 in format 2.
 #[tactic(auto, unfolding(crate::specs::Image::further, crate::specs::Image::format_of))]
 fn further(file: &[u8]) -> u16
     requires { 49 ≤ length file.now }
@@ -57,7 +57,7 @@ fn has_digest(file: &[u8], more: u16) -> bool
     &file[17 + more..HEAD + more] == digest.as_slice()
 }
 
-/// Whether the bytes are an image file.
+/// Says whether the bytes are an image file.
 #[tactic(auto, using(crate::proofs::ImageLemmas::image_bounds), unfolding(crate::specs::Image::is_image, crate::specs::Image::firmware_of, crate::specs::Image::lowest_of, crate::specs::Image::highest_of))]
 pub fn is_image(bytes: &[u8]) -> bool
     ensures value { result ≡ is_image bytes.now }
@@ -77,7 +77,7 @@ pub fn is_image(bytes: &[u8]) -> bool
         && has_digest(bytes, more)
 }
 
-/// The lowest hardware version that an image file is for.
+/// Returns the lowest hardware version that an image file is for.
 #[tactic(auto, unfolding(crate::specs::Image::lowest_of))]
 pub fn lowest(file: &[u8]) -> u32
     requires { 49 ≤ length file.now }
@@ -86,7 +86,7 @@ pub fn lowest(file: &[u8]) -> u32
     u32_at(file, 5)
 }
 
-/// The highest hardware version that an image file is for.
+/// Returns the highest hardware version that an image file is for.
 #[tactic(auto, unfolding(crate::specs::Image::highest_of))]
 pub fn highest(file: &[u8]) -> u32
     requires { 49 + further file.now ≤ length file.now }
@@ -95,7 +95,7 @@ pub fn highest(file: &[u8]) -> u32
     u32_at(file, 5 + further(file))
 }
 
-/// The firmware version of an image file.
+/// Returns the firmware version of an image file.
 #[tactic(auto, unfolding(crate::specs::Image::firmware_of))]
 pub fn firmware(file: &[u8]) -> u32
     requires { 49 + further file.now ≤ length file.now }
@@ -104,7 +104,7 @@ pub fn firmware(file: &[u8]) -> u32
     u32_at(file, 9 + further(file))
 }
 
-/// Whether an image file is for a hardware version.
+/// Says whether an image file is for a hardware version.
 #[tactic(auto, unfolding(crate::specs::Image::is_for))]
 pub fn is_for(file: &[u8], hw: u32) -> bool
     requires { 49 + further file.now ≤ length file.now }

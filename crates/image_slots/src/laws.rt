@@ -1,16 +1,16 @@
-//! Laws about the definitions, each the contract of a function that does nothing.
+//! Laws about the definitions, each the contract of a function with an empty body.
 
 ghost use Rattle.std.specs.Prelude.{◌≡◌, ◌+◌, ◌≤◌, ℕ, List, length, true};
 ghost use Rattle.image_slots.specs.Image.{max_image, further, is_image};
 ghost use Rattle.image_slots.specs.WorkedImages.{WorkedImages, WorkedSlots};
 
-/// An image file has the bytes before its body, 49 or in format 2 53, and 262,144 at most.
+/// An image file has at least the bytes before its body, 49 or in format 2 53, and at most 262,144.
 pub fn an_image_has_its_bounds()
     ensures long { (file : List ℕ) → is_image file ≡ true → 49 + further file ≤ length file }
     ensures short { (file : List ℕ) → is_image file ≡ true → length file ≤ max_image }
 {}
 
-/// Image files and slots that are worked out.
+/// Image files and slots, worked out.
 pub fn worked_images()
     ensures images { WorkedImages }
     ensures slots { WorkedSlots }

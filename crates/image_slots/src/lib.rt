@@ -1,9 +1,8 @@
-//! The image file of a firmware update (FUIM, this project's profile; its digest is the SHA-256 of FIPS 180-4), and what
-//! it is to a device: the states of a next slot that firmware management reports (TS006-1.0.0), and the two slots.
-//! Whatever bytes are handed in, they are an image file exactly where the definition says so, and the state is the one
-//! that the definition gives them for a hardware version: corrupt, incompatible, or valid with the firmware's version.
-//! Slots take their memory once, and each call on them is a function of what they hold.
-//! Who made a file, and when a device starts it, is left to the crates above.
+//! The image file of a firmware update (FUIM, this project's profile; its digest is the SHA-256 of FIPS 180-4), and what it is to
+//! a device: the states of a next slot that firmware management reports (TS006-1.0.0, DevUpgradeImageAns), and the two slots. Any
+//! bytes are an image file exactly where the definition says so. Their state is the one that the definition gives them for a
+//! hardware version: corrupt, incompatible, or valid with the firmware's version. Slots take their memory once, and each call on
+//! them is a function of what they hold. Who made a file, and when a device starts it, is left to the crates above.
 //!
 //!     match ImageView::read(file, hardware, 2) {
 //!         ImageState::Valid(firmware) => ..,

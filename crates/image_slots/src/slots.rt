@@ -13,12 +13,12 @@ use thiserror::Error;
 #[error("out of memory")]
 pub struct Memory;
 
-/// What a device runs, and the file that it received to run next. Its memory is taken once.
+/// What a device runs, and the file that it received to run next (TS006-1.0.0). Its memory is taken once.
 #[derive(Drop)]
 pub struct Slots {
     /// The device's hardware version.
     hw: u32,
-    /// The image formats that are known: 1 alone (1), or both (2).
+    /// The image formats that are known: only 1 (1), or both (2).
     formats: u8,
     /// The bytes that each slot has room for.
     area: u32,
@@ -47,8 +47,8 @@ impl Model for Slots {
 }
 
 impl Slots {
-    /// Slots for files of at most `area` bytes on this hardware version, of format 1 alone (`formats` 1) or of both (2).
-    /// Version 0 runs, without a file, and next is none.
+    /// Takes the memory of slots for files of at most `area` bytes on this hardware version, of only format 1 (`formats` 1) or of
+    /// both (2). Version 0 runs, without a file, and next is none. `Memory` comes where memory is missing.
     pub fn reserve(alloc: Global, area: u32, hw: u32, formats: u8) -> Result<Self, Memory>
         ensures { IfOk result
             (λ s. s ≡ record { hw = hw; area = area; slots = first_slots formats }) }
@@ -70,7 +70,7 @@ impl Slots {
         })
     }
 
-    /// A file of at most `area` bytes becomes next, whatever next was.
+    /// Makes a file of at most `area` bytes next, whatever next was.
     #[tactic(auto, unfolding(crate::specs::Slots::after_offer))]
     pub fn offer(&mut self, file: &[u8])
         requires { length file.now ≤ self.old.area }
@@ -81,7 +81,7 @@ impl Slots {
         put_file(&mut self.next_file, file);
     }
 
-    /// A file of at most `area` bytes is what runs from now on, with this version, and next stays.
+    /// Makes a file of at most `area` bytes what runs from now on, with this version; next stays.
     pub fn run(&mut self, version: u32, file: &[u8])
         requires { length file.now ≤ self.old.area }
         ensures { self.new ≡ record self.old {
@@ -92,7 +92,7 @@ impl Slots {
         put_file(&mut self.running, file);
     }
 
-    /// A valid next becomes what runs, and next is none; any other next stays.
+    /// Makes a valid next what runs, and next none; any other next stays.
     #[tactic(auto, unfolding(crate::specs::Slots::after_swap))]
     pub fn swap(&mut self)
         ensures { self.new ≡ record self.old { slots = after_swap self.old.slots } }
@@ -105,8 +105,8 @@ impl Slots {
         }
     }
 
-    /// Deletes next where it is valid with this version. Else it answers bit 0 without a valid next, or bit 1 where next has
-    /// another version (DevDeleteImageReq, TS006-1.0.0; the bits are this project's profile).
+    /// Deletes next where it is valid with this version, and returns 0. Else it returns bit 0 without a valid next, or bit 1
+    /// where next has another version (DevDeleteImageReq, TS006-1.0.0; the bits are this project's profile).
     #[tactic(auto, unfolding(crate::specs::Slots::after_delete))]
     pub fn delete(&mut self, version: u32) -> u8
         ensures bits { result ≡ delete_bits self.old.slots.next version }
@@ -119,8 +119,8 @@ impl Slots {
         bits
     }
 
-    /// Both formats are known from now on, and the bytes of next are read again: none stays none, a valid next keeps its
-    /// version, and what runs stays.
+    /// Makes both formats known from now on, and reads the bytes of next again: none stays none, a valid next keeps its version,
+    /// and what runs stays.
     #[tactic(auto, unfolding(crate::specs::Slots::after_raise))]
     pub fn raise(&mut self)
         ensures slots { self.new
@@ -134,7 +134,7 @@ impl Slots {
         self.formats = 2;
     }
 
-    /// The version that runs, and its file: nothing at first.
+    /// Returns the version that runs, and its file: 0 and nothing at first.
     pub fn running(&self) -> (u32, &[u8])
         ensures version { result.0 ≡ self.now.slots.version }
         ensures file { result.1.now ≡ self.now.slots.running }
@@ -142,21 +142,21 @@ impl Slots {
         (self.version, self.running.as_slice())
     }
 
-    /// The image formats that it knows: 1 alone (1), or both (2).
+    /// Returns the image formats that it knows: only 1 (1), or both (2).
     pub fn formats(&self) -> u8
         ensures { result ≡ self.now.slots.formats }
     {
         self.formats
     }
 
-    /// What next is to the device.
+    /// Returns what next is to the device (DevUpgradeImageAns, TS006-1.0.0).
     pub fn next(&self) -> ImageState
         ensures { result ≡ self.now.slots.next }
     {
         self.next
     }
 
-    /// The bytes of next, none where next is none.
+    /// Returns the bytes of next, none where next is none.
     pub fn next_file(&self) -> &[u8]
         ensures { result.now ≡ self.now.slots.next_file }
     {
@@ -184,7 +184,7 @@ fn put_file(slot: &mut Vec<u8>, file: &[u8])
     }
 }
 
-/// The answer to the wish to delete a version.
+/// The answer to the request to delete a version.
 fn delete_bits(next: ImageState, version: u32) -> u8
     ensures { result ≡ delete_bits next version }
 {

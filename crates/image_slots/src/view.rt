@@ -5,7 +5,7 @@ ghost use Rattle.image_slots.specs.Image.{image_state, is_unknown};
 
 use crate::image::{firmware, is_for, is_image};
 
-/// What the bytes in a device's next slot are to it.
+/// What the bytes in a device's next slot are to it (TS006-1.0.0, DevUpgradeImageAns).
 #[derive(Clone, Copy, Debug, PartialEq, Eq)]
 pub enum ImageState {
     /// There is none: nothing was offered since the start, or since it ran or was deleted.
@@ -22,14 +22,14 @@ pub enum ImageState {
 pub struct ImageView;
 
 impl ImageView {
-    /// What bytes are to a device of this hardware version, which knows format 1 alone (`formats` 1) or both (2).
-    /// A file of format 2 is corrupt to one that does not know it.
+    /// Says what bytes are to a device of this hardware version, which knows only format 1 (`formats` 1) or both (2). A file of
+    /// format 2 is corrupt to a device that does not know it.
     #[tactic(auto, using(crate::proofs::ImageLemmas::image_bounds), unfolding(crate::specs::Image::image_state))]
     pub fn read(bytes: &[u8], hw: u32, formats: u8) -> ImageState
         ensures state { result ≡ image_state bytes.now hw formats }
         ensures some { result ≢ ImageState.None }
     {
-        // (one that is not known is corrupt, whatever its digest)
+        // (a file of a format that is not known is corrupt, whatever its digest)
         if is_unknown(bytes, formats) || !is_image(bytes) {
             return ImageState::Corrupt;
         }
@@ -40,7 +40,7 @@ impl ImageView {
     }
 }
 
-/// Whether bytes would be a file of format 2, while a device knows format 1 alone.
+/// Whether bytes would be a file of format 2, while a device knows only format 1.
 #[tactic(auto, unfolding(crate::specs::Image::is_unknown, crate::specs::Image::format_of))]
 fn is_unknown(bytes: &[u8], formats: u8) -> bool
     ensures { result ≡ is_unknown bytes.now formats }

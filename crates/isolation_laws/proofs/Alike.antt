@@ -1,4 +1,4 @@
--- Two states of a campaign that differ in the counters of their devices alone go on alike.
+-- Two states of a campaign that differ only in the counters of their devices go on alike.
 use Rattle.std.proofs.Common.{◌≡◌, ◌⊎◌, inl, inr, ℕ, ◌+◌, ◌-◌, Bool, true, false, not, cond, List, [], ◌++◌, map, Option, Some, None, Ok, Err, refl, sym, ap, subst}
 use Rattle.std.specs.List.{AllZip, slice_set}
 use Rattle.std.specs.Result.{result_ok}

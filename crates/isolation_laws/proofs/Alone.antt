@@ -1,4 +1,4 @@
--- A campaign beside another is the one that it is alone, but for the counters of its devices.
+-- A campaign next to another is the one that it would be alone, except for the counters of its devices.
 use Rattle.std.proofs.Common.{◌≡◌, inl, inr, ℕ, zero, suc, ◌+◌, ◌-◌, ◌==◌, Bool, true, false, not, cond, List, [], ◌∷◌, ◌++◌, length, map, slice_get, nat_le, Option, Some, None, Result, Ok, Err, refl, sym, ap, ◌∙◌, subst, append-nil}
 use Rattle.std.specs.List.{AllZip, slice_set}
 use Rattle.std.proofs.lemmas.Bool.{and_parts}
@@ -60,7 +60,7 @@ zip_moved {A} {B} R xs ys n x new all there moves = by (n == 0) there
     by true is = absurd cc
     by false is = at xs ys (n - 1) all is
 
--- where it held no uplink, it is still the same but for its counters
+-- where it held no uplink, it is still the same except for its counters
 still_alike : (d e one : DeviceState) → IsAlike d e → d.outbox ≡ [] → IsAlike d one → IsAlike (uplinks_taken e) one
 still_alike d e one alike empty same =
     subst (λ (x : DeviceState). IsAlike (uplinks_taken x) one) alike
@@ -227,9 +227,9 @@ whole image lines last is ends = rw is (ended last ends)
 rest_is : (w v : WorldState) → Like w v → v.section ≡ w.section → v ≡ record w { devices = v.devices }
 rest_is w v like same = like.rest ∙ ap (λ (s : Section). record w { devices = v.devices; section = s }) same
 
--- ---- what is told
+-- ---- what the report says
 
--- the lines of a device that is there are told by all of it but its counters
+-- the lines of a device that is there show all of it except its counters
 pub told_by : (w : WorldState) (id : ℕ) (name : List ℕ) (stage : Stage) (d one : DeviceState) → IsAlike d one → ledger w.server id ≡ Some stage
     → numbered w.devices id ≡ Some d → lines_under name id w ≡ part_counting w.server.image name stage one d.counts
 told_by w id name stage d one alike stage_is there =

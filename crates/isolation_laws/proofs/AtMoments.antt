@@ -1,4 +1,4 @@
--- Where each event of the other campaign is written as `at` its moment, a campaign is the same but for its devices' counters.
+-- Where each event of the other campaign is written as `at` its moment, a campaign is the same except for its devices' counters.
 use Rattle.std.proofs.Common.{◌≡◌, ◌⊎◌, inl, inr, ℕ, ◌≤◌, ◌<◌, ◌^◌, Bool, true, false, cond, ◌&&◌, ◌||◌, nat_le, nat_lt, List, [], ◌∷◌, ◌++◌, length, codes, Option, Some, None, Ok, refl, sym, ap, ◌∙◌, subst, arith, true≢false}
 use Rattle.std.proofs.lemmas.Bool.Decides.{nat_tests}
 use Rattle.std.specs.List.{AllZip}
@@ -285,7 +285,7 @@ differ x p q b is = record {
   devices = b.own.devices;
 }
 
--- ---- what is told
+-- ---- what the report says
 
 both_told : (x : Campaign) (p q : PairState) (id number : ℕ) (stage : Stage) (d one : DeviceState) → (side q x).server ≡ (side p x).server → IsAlike d one
     → numbered (side p x).devices number ≡ Some d → numbered (side q x).devices number ≡ Some one → ledger (side p x).server number ≡ Some stage

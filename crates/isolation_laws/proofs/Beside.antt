@@ -1,4 +1,4 @@
--- Two pairs of which one campaign is the same but for its devices' counters, and the other's events are moments in the second.
+-- Two pairs: one campaign is the same except for its devices' counters, and the other's events are moments in the second.
 use Rattle.std.proofs.Common.{◌≡◌, ◌⊎◌, inl, inr, ℕ, ◌+◌, ◌≤◌, Bool, true, false, cond, ◌&&◌, nat_le, nat_lt, List, [], ◌∷◌, ◌++◌, length, Option, Some, None, Ok, refl, sym, ap, ◌∙◌, subst, true≢false}
 use Rattle.std.specs.List.{AllZip}
 use Rattle.std.proofs.lemmas.Bool.{le-leb, and_parts}

@@ -1,4 +1,4 @@
--- Two states of a campaign after the plan that differ in their devices' counters alone, whether an event came yet or not.
+-- Two states of a campaign after the plan that differ only in their devices' counters, whether an event came yet or not.
 use Rattle.std.proofs.Common.{◌≡◌, ◌⊎◌, inl, inr, ℕ, ◌+◌, ◌≤◌, true, false, List, [], None, Ok, refl, sym, ap, ◌∙◌, subst, arith, true≢false}
 use Rattle.std.specs.List.{AllZip}
 use Rattle.std.proofs.lemmas.Bool.{le-leb}

@@ -1,4 +1,4 @@
--- A line that names a campaign spells a form of one campaign: none that both take, and none that names a device alone.
+-- A line that names a campaign spells a form of one campaign: none that both take, and none that only names a device.
 use Rattle.std.proofs.Common.{◌≡◌, ℕ, ◌+◌, ◌-◌, Bool, true, false, cond, List, codes, Option, None, Some, IfSome, refl, subst}
 use Rattle.script_lines.specs.declared.forms.Campaign.{Campaign}
 use Rattle.script_lines.specs.declared.forms.Form.{Form}

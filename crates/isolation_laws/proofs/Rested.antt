@@ -136,7 +136,7 @@ form_rested image index w End keeps own fine plain k = record { devices = k.devi
 alike_rests : (d e : DeviceState) → IsAlike d e → Rests d → Rests e
 alike_rests d e alike rests = sym (ap (λ (x : DeviceState). x.reboot) alike) ∙ rests
 
--- a payload that is for others leaves a device of this campaign as it is but for its counters
+-- a payload that is for others leaves a device of this campaign as it is except for its counters
 pub reached_alike : (image : List ℕ) (index : ℕ) (w : WorldState) (n word : ℕ) (down : Downlink) (d : DeviceState) → Stands image index w → Rested index w
     → said_cause w (Reached n word down) ≡ None → are_for_others index (reading_of down.port Downwards down.payload) ≡ true
     → numbered w.devices n ≡ Some d → IsAlike d (event_step d (Receives w.time word (w.lines + 1) down))

@@ -32,7 +32,7 @@ use Rattle.device_core.specs.Step.{command_step, acts, step, after_commands, wei
 use Rattle.device_core.specs.Deliver.{Outcome, asks_time, message_delivery, read_delivery, arrival, heard_delivery, time_asking, waking, delivery}
 use Rattle.campaign_laws.proofs.Calm.{is_calm}
 
--- no reboot is to come
+-- no reboot will come
 abbrev pub Rests : DeviceState → Type 0
 Rests d = d.reboot ≡ None
 

@@ -122,7 +122,7 @@ unfolding after_target
 side_behind campaign.A pair target = refl
 side_behind campaign.B pair target = refl
 
--- ---- what it says to the campaign whose it is
+-- ---- what it says to its own campaign
 
 -- the form of it fits
 abbrev pub SaysFit : Said → Type 0
@@ -337,7 +337,7 @@ common_passed pair pair_form none =
     let two = cut_cause (in_range pair_form.form && is_next (length pair.owners) pair_form.form && is_apart pair.a.server.plan pair_form.campaign pair_form.form) why.Range _ one.1 in
     record { comes = one.0; apart = (and_parts _ _ two.0).1 }
 
--- what b is told of its image
+-- what the lines say to b of its image
 abbrev pub IsApartFrom : WorldState → Said → Type 0
 IsApartFrom a (Own (form.Image frag_size parity index)) = (is_late a.section ≡ true) × (a.server.plan.index ≡ index → ⊥)
 IsApartFrom a said = Unit {0}

@@ -172,7 +172,7 @@ pub same_target : (owners : List Owner) (a b c d : ℕ) (named : Option Campaign
 same_target owners a b c d None f event = refl
 same_target owners a b c d (Some x) f event = named_alike owners _ _ x f event
 
--- ---- the time is told to both
+-- ---- both hear the time
 
 abbrev pub IsTimeless : Target → Type 0
 IsTimeless (One x f) = is_quiet f ≡ false

@@ -1,5 +1,5 @@
--- That two campaigns of one script are isolated, said of scripts (this project's profile): where each event of the other campaign
--- is written as `at` its moment, a campaign is the same but for the counters of its devices.
+-- Two campaigns of one script are isolated, by their scripts (this project's profile): where each event of the other campaign is
+-- written as `at` its moment, a campaign is the same except for the counters of its devices.
 use Rattle.std.specs.Prelude.{◌≡◌, ℕ, ◌≤◌, Bool, true, false, ◌&&◌, ◌||◌, if◌then◌else◌, List, [], ◌∷◌, ◌++◌, length, codes, Option, Some, None, Ok}
 use Rattle.std.specs.Fmt.{decimal}
 use Rattle.wire_base.specs.Numbered.{numbered}
@@ -52,7 +52,7 @@ pub record IsAtMoment (pair : PairState) (line : List ℕ) : Type 0 where
   pub short : length line ≤ max_line
   pub reads : pair_form_of line ≡ Some (record { campaign = None; form = At pair.a.time })
 
--- it stands in the line's place, or the line is the same
+-- it is in the line's place, or the line is the same
 abbrev pub StandsFor : (is_its : Bool) → PairState → (line other : List ℕ) → Type 0
 StandsFor true pair line other = IsAtMoment pair other
 StandsFor false pair line other = other ≡ line
@@ -68,7 +68,7 @@ AreMoments y pair lines others = ⊥
 abbrev pub at_text : (now : ℕ) → List ℕ
 at_text now = codes "at " ++ decimal now
 
--- the script with such a line in the place of each
+-- the script with such a line instead of each
 abbrev pub with_moments : Campaign → PairState → (lines : List (List ℕ)) → List (List ℕ)
 with_moments y pair [] = []
 with_moments y pair (line ∷ lines) =
@@ -81,14 +81,14 @@ pub record AreBothTold (x : Campaign) (pair beside : PairState) (id number : ℕ
   pub told : part_of pair id (owner_of x number) ≡ part_counting (side pair x).server.image (pair_name id x) stage one device.counts
   pub told_beside : part_of beside id (owner_of x number) ≡ part_counting (side pair x).server.image (pair_name id x) stage one one.counts
 
--- a device of a campaign is the same beside the moments, but for its counters
+-- a device of a campaign is the same next to the moments, except for its counters
 pub record IsOneBeside (x : Campaign) (pair beside : PairState) (number : ℕ) (device one : DeviceState) : Type 0 where
   pub there : numbered (side beside x).devices number ≡ Some one
   pub alike : IsAlike device one
   pub told : (id : ℕ) (stage : Stage) → ledger (side pair x).server number ≡ Some stage → AreBothTold x pair beside id number stage device one
 
--- the campaign beside the moments: no line is refused, each ID is the same campaign's device, and this campaign is the same but for
--- its devices' counters
+-- the campaign next to the moments: no line is refused, each ID is the same campaign's device, and this campaign is the same
+-- except for its devices' counters
 pub record IsBesideMoments (x : Campaign) (image_a image_b : List ℕ) (others : List (List ℕ)) (pair beside : PairState) : Type 0 where
   pub accepted : campaigns_of image_a image_b others ≡ Ok beside
   pub owners : beside.owners ≡ pair.owners
@@ -98,7 +98,7 @@ pub record IsBesideMoments (x : Campaign) (image_a image_b : List ℕ) (others :
 
 -- ---- the laws
 
--- whatever two images and accepted script there are, of each of the two campaigns, however the moments are spelt
+-- for any two images and any accepted script, for each of the two campaigns, however the moments are spelt
 abbrev pub OthersEventsAreMoments : Type 0
 OthersEventsAreMoments = (x : Campaign) (image_a image_b : List ℕ) (lines others : List (List ℕ)) (pair : PairState)
     → IsScriptOfTwo image_a image_b lines pair

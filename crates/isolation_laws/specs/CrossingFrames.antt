@@ -1,4 +1,4 @@
--- That a payload of one campaign which goes on the air to a device of the other is heard as the payload would be (this project's
+-- A payload of one campaign that reaches a device of the other on the air is heard as the payload itself would be (this project's
 -- profile): the device hears no group with that address.
 use Rattle.std.specs.Prelude.{◌≡◌, ℕ, List, ◌∷◌, ◌++◌, Some, Ok}
 use Rattle.wire_base.specs.Numbered.{numbered}
@@ -16,7 +16,7 @@ use Rattle.pair_run.specs.PairCauses.{target_in}
 use Rattle.pair_run.specs.PairScript.{read_pair_lines}
 use Rattle.isolation_laws.specs.Isolation.{IsScriptOfTwo}
 
--- a line of an accepted script by which a payload of a campaign goes on the air to a device of the other, after the lines before it
+-- a line of an accepted script by which a payload of a campaign reaches a device of the other on the air, and the lines before it
 pub record CrossesOnAir (x : Campaign) (image_a image_b : List ℕ) (before after : List (List ℕ)) (line : List ℕ) (pair so_far : PairState)
     (sent : SentPayload) (device : DeviceState) : Type 0 where
   pub script : IsScriptOfTwo image_a image_b (before ++ line ∷ after) pair
@@ -30,7 +30,7 @@ pub record CrossesOnAir (x : Campaign) (image_a image_b : List ℕ) (before afte
   pub sent_is : numbered (side so_far x).sent number ≡ Some sent
   pub device_is : numbered (side so_far (other x)).devices id ≡ Some device
 
--- its frame makes of the device what the payload makes
+-- its frame does to the device what the payload does
 abbrev pub FramesCrossInScripts : Type 0
 FramesCrossInScripts = (x : Campaign) (image_a image_b : List ℕ) (before after : List (List ℕ)) (line : List ℕ) (pair so_far : PairState)
     (sent : SentPayload) (device : DeviceState) → CrossesOnAir x image_a image_b before after line pair so_far sent device

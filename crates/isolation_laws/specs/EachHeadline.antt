@@ -1,5 +1,5 @@
 -- The headline of each of two campaigns that share a script (this project's profile): the lines of each are honest, so what holds
--- of a campaign of its own holds of each of the two, with its own image.
+-- for one campaign holds for each of the two, with its own image.
 use Rattle.std.specs.Prelude.{◌≡◌, ◌⊎◌, ℕ, true, false, List, codes, Some, is_some}
 use Rattle.wire_base.specs.Numbered.{numbered}
 use Rattle.frag_session.specs.Session.{Session, Seen, seen_of}
@@ -42,9 +42,9 @@ part_saying x id index stage device seen words =
 abbrev pub owner_of : Campaign → (number : ℕ) → Owner
 owner_of x number = record { campaign = x; number = number }
 
--- what the report says of the session, under whatever ID the device has in the script
+-- what the report says of the session, for any ID that the device has in the script
 pub record IsToldOf (x : Campaign) (image : List ℕ) (pair : PairState) (number : ℕ) (stage : Stage) (device : DeviceState) (s : Session) : Type 0 where
-  -- some fragment is the first after which one file alone fits, the image; or one exceeds the rows first; or it is open yet
+  -- some fragment is the first after which only one file fits, the image; or one exceeds the rows first; or it is still open
   pub cases : ((line : ℕ) × WholeAt image s line) ⊎ (((line : ℕ) × OverAt s line) ⊎ StaysOpen s)
   -- where there is one, the report names its line
   pub complete : (id line : ℕ) → WholeAt image s line
@@ -57,7 +57,7 @@ pub record IsToldOf (x : Campaign) (image : List ℕ) (pair : PairState) (number
 
 -- ---- the laws
 
--- whatever images and accepted script there are
+-- for any images and any accepted script
 pub record EachHasItsHeadline : Type 0 where
   -- the two have different indexes
   pub apart : (image_a image_b : List ℕ) (lines : List (List ℕ)) (pair : PairState) → IsScriptOfTwo image_a image_b lines pair
@@ -80,7 +80,7 @@ pub record EachHasItsHeadline : Type 0 where
   pub brought : (x : Campaign) (image_a image_b : List ℕ) (lines : List (List ℕ)) (pair : PairState) (id : ℕ) (stage : Stage) (device : DeviceState) (session : Session)
       → HasSession x image_a image_b lines pair id stage device session
       → HearsBrought (image_of x image_a image_b) (own_lines x image_a image_b lines) (side pair x) id session
-  -- it is complete exactly when one file alone fits, its campaign's image, unless the rows are exceeded first
+  -- it is complete exactly when only one file fits, its campaign's image, unless the rows are exceeded first
   pub recovered : (x : Campaign) (image_a image_b : List ℕ) (lines : List (List ℕ)) (pair : PairState) (id : ℕ) (stage : Stage) (device : DeviceState) (session : Session)
       → HasSession x image_a image_b lines pair id stage device session → IsRecovered (image_of x image_a image_b) session
   -- the report of both says so
@@ -94,7 +94,7 @@ EachLedgerIsTrue = (x : Campaign) (image_a image_b : List ℕ) (lines : List (Li
     → IsScriptOfTwo image_a image_b lines pair → is_image (image_of x image_a image_b) ≡ true
     → ledger (side pair x).server id ≡ Some Updated → Runs (image_of x image_a image_b) (side pair x).devices id
 
--- a device to which a line brought its server's setup, and that takes its descriptor, has its session
+-- a device to which a line brought its server's setup, and that accepts its descriptor, has its session
 abbrev pub EachSessionLives : Type 0
 EachSessionLives = (x : Campaign) (image_a image_b : List ℕ) (lines : List (List ℕ)) (pair : PairState) (id : ℕ) (device : DeviceState) (n : ℕ)
     → IsScriptOfTwo image_a image_b lines pair → is_image (image_of x image_a image_b) ≡ true

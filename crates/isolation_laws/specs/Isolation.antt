@@ -1,5 +1,5 @@
--- That two campaigns of one script are isolated (this project's profile): what the other sends changes nothing of a campaign but
--- the counters of its devices.
+-- Two campaigns of one script are isolated (this project's profile): what the other sends changes only the counters of a
+-- campaign's devices.
 use Rattle.std.specs.Prelude.{◌≡◌, ℕ, ◌^◌, ◌<◌, List, map, All, Some, Ok}
 use Rattle.std.specs.List.{AllZip}
 use Rattle.wire_base.specs.Numbered.{numbered}
@@ -28,7 +28,7 @@ pub record IsScriptOfTwo (image_a image_b : List ℕ) (lines : List (List ℕ)) 
 
 -- ---- the campaign alone
 
--- where the other campaign's payload reaches a device, the line passes by, as all lines of the other do
+-- where the other campaign's payload reaches a device, the line is skipped, as all lines of the other are
 abbrev pub unreached : Line → Line
 unreached (Ok (Reached device word down)) = Ok Elsewhere
 unreached line = line
@@ -39,8 +39,8 @@ lines_alone x image_a image_b lines = map unreached (own_lines x image_a image_b
 
 -- ---- what is the same
 
--- two campaigns that differ in their devices' counters alone: the same server, payloads, uplinks, lines and time, and each device
--- the same but for its counters
+-- two campaigns that differ only in their devices' counters: the same server, payloads, uplinks, lines and time, and each device
+-- the same except for its counters
 pub record DifferInCounters (one other : WorldState) : Type 0 where
   pub rest : other ≡ record one { devices = other.devices }
   pub devices : AllZip IsAlike one.devices other.devices
@@ -55,13 +55,13 @@ pub record AreToldAlike (world alone : WorldState) (id : ℕ) (name : List ℕ) 
   pub beside : lines_under name id world ≡ part_counting world.server.image name stage one device.counts
   pub alone_is : lines_under name id alone ≡ part_counting world.server.image name stage one one.counts
 
--- a device of the campaign alone is the one beside the other campaign, but for its counters
+-- a device of the campaign alone is the one next to the other campaign, except for its counters
 pub record IsOneOf (world alone : WorldState) (id : ℕ) (device one : DeviceState) : Type 0 where
   pub there : numbered alone.devices id ≡ Some one
   pub alike : IsAlike device one
   pub told : (name : List ℕ) (stage : Stage) → ledger world.server id ≡ Some stage → AreToldAlike world alone id name stage device one
 
--- the campaign alone: no line of it is refused, and it is the campaign beside the other, but for its devices' counters
+-- the campaign alone: no line of it is refused, and it is the campaign next to the other, except for its devices' counters
 pub record IsAlone (image : List ℕ) (lines : List Line) (world alone : WorldState) : Type 0 where
   pub accepted : campaign_of image lines ≡ Ok alone
   pub differ : DifferInCounters world alone
@@ -69,14 +69,14 @@ pub record IsAlone (image : List ℕ) (lines : List Line) (world alone : WorldSt
 
 -- ---- the laws
 
--- whatever two images and accepted script there are, of each of the two campaigns
+-- for any two images and any accepted script, for each of the two campaigns
 abbrev pub CampaignsAreIsolated : Type 0
 CampaignsAreIsolated = (x : Campaign) (image_a image_b : List ℕ) (lines : List (List ℕ)) (pair : PairState)
     → IsScriptOfTwo image_a image_b lines pair
     → (alone : WorldState) × IsAlone (image_of x image_a image_b) (lines_alone x image_a image_b lines) (side pair x) alone
 
--- so whatever the campaign beside it is, and whatever that one sends: two accepted scripts that say the same to a campaign over the
--- same image, the other's payloads apart, make the same of it but for its devices' counters
+-- so for any other campaign, whatever it sends: two accepted scripts that say the same to a campaign over the same image, except
+-- for the other's payloads, make the same of it except for its devices' counters
 abbrev pub NoOtherCampaignMatters : Type 0
 NoOtherCampaignMatters = (x : Campaign) (image_a image_b : List ℕ) (lines : List (List ℕ)) (pair : PairState)
     (other_a other_b : List ℕ) (others : List (List ℕ)) (beside : PairState)

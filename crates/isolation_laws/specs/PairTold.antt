@@ -1,4 +1,4 @@
--- Where the report of two campaigns says what of a device (this project's profile).
+-- Where the report of two campaigns says what about a device (this project's profile).
 use Rattle.std.specs.Prelude.{◌≡◌, ℕ, ◌+◌, ◌-◌, List, take, drop, codes, Some}
 use Rattle.wire_base.specs.Numbered.{numbered}
 use Rattle.device_core.specs.Device.{DeviceState}
@@ -23,12 +23,12 @@ pair_text_after pair id = pair_parts pair (id + 1) (drop id pair.owners) ⧺ cod
 abbrev pub pair_report_with : PairState → (id : ℕ) → (part : List ℕ) → List ℕ
 pair_report_with pair id part = pair_text_before pair id ⧺ part ⧺ pair_text_after pair id
 
--- a device of a campaign has this ID in the script, and its lines stand in the report in the place of that ID
+-- a device of a campaign has this ID in the script, and its lines are in the report in the place of that ID
 pub record IsPlaced (x : Campaign) (pair : PairState) (number id : ℕ) : Type 0 where
   pub named : numbered pair.owners id ≡ Some (owner_of x number)
   pub report : pair_report_of pair ≡ pair_report_with pair id (part_of pair id (owner_of x number))
 
--- each device of either has one, whatever two images and accepted script there are
+-- each device of either has one, for any two images and any accepted script
 abbrev pub EachIsReported : Type 0
 EachIsReported = (x : Campaign) (image_a image_b : List ℕ) (lines : List (List ℕ)) (pair : PairState) (number : ℕ) (device : DeviceState)
     → IsScriptOfTwo image_a image_b lines pair → numbered (side pair x).devices number ≡ Some device

@@ -1,4 +1,4 @@
--- A script of two campaigns, and what it is with the events of the one, and of the other, at their moments.
+-- A script of two campaigns, and what it becomes with the events of the one, and of the other, at their moments.
 use Rattle.std.specs.Prelude.{◌≡◌, ℕ, List, ◌++◌, codes}
 use Rattle.script_lines.specs.declared.forms.Campaign.{Campaign}
 use Rattle.script_lines.specs.declared.forms.Campaign.TheVariants.{A, B}

@@ -1,6 +1,6 @@
-//! What keeps two campaigns that share a script apart, whichever lines it has: each is the campaign that it is alone but for its
-//! devices' counters, and each has the headline of a campaign of its own, with its own image. There is no code here: the laws are
-//! said of what `pair_run` takes and holds.
+//! What keeps two campaigns that share a script apart, whichever lines it has: each is the campaign that it would be alone,
+//! except for its devices' counters, and each has the headline of a campaign of its own, with its own image. There is no code
+//! here: the laws are about what `pair_run` takes and holds.
 #![tactic(auto)]
 
 mod laws;

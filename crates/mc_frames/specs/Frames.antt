@@ -1,4 +1,4 @@
--- Multicast downlink frames of LoRaWAN 1.0.x: unconfirmed, without MAC commands.
+-- Multicast downlink frames of LoRaWAN 1.0.x (section 4): unconfirmed, without MAC commands.
 use Rattle.std.specs.Prelude.{ℕ, ◌+◌, ◌/◌, ◌%◌, List, [], ◌∷◌, ◌++◌, length, take, map, slice_index, bit_xor}
 use Rattle.std.specs.List.{range_with_len}
 use Rattle.aes_block.specs.Cipher.{cipher}

@@ -2,7 +2,7 @@
 
 use thiserror::Error;
 
-/// Why a frame isn't opened: the first of these that holds.
+/// Why a frame isn't opened: the first of these faults that it has.
 #[derive(Clone, Copy, Debug, PartialEq, Eq, Error)]
 pub enum FrameFault {
     /// There are fewer than 13 bytes.
@@ -20,7 +20,7 @@ pub enum FrameFault {
     /// The port is 0.
     #[error("the port is 0")]
     Port,
-    /// The count, that of the 65,536 from `min` on with such low two bytes, isn't below `max`.
+    /// The count is not below `max`: the one of the 65,536 from `min` on that has the frame's low two bytes.
     #[error("the frame count is out of its range")]
     Count,
     /// The MIC is another.

@@ -1,4 +1,4 @@
-//! What holds of the definitions alone.
+//! Laws about the definitions, each the contract of a function with an empty body.
 
 ghost use Rattle.std.specs.Prelude.{◌≡◌, ℕ, ◌+◌, ◌%◌, ◌≤◌, ◌<◌, List, length};
 ghost use Rattle.mc_frames.specs.declared.session.Keys.{Keys};
@@ -7,7 +7,7 @@ ghost use Rattle.mc_frames.specs.WorkedFrames.{WorkedCodes, WorkedFrames, Worked
 ghost use Rattle.wire_base.specs.Payload.{max_payload};
 ghost use Rattle.mc_frames.specs.Opening.{Holds, count_near};
 
-/// What is framed with a count that is due holds its count, port and payload, so that it is opened to them.
+/// A frame made with a count that is due holds its count, port and payload, so it is opened to them.
 pub fn frame_holds_what_it_was_made_of()
     ensures { (keys : Keys) (addr min max count port : ℕ) (payload : List ℕ)
         → length payload ≤ max_payload → 0 < port
@@ -16,7 +16,7 @@ pub fn frame_holds_what_it_was_made_of()
         count port payload }
 {}
 
-/// Bytes hold one count, one port and one payload at most.
+/// Bytes hold at most one count, one port and one payload.
 pub fn held_is_unique()
     ensures { (keys : Keys) (addr min max : ℕ) (bytes : List ℕ)
         → (c p d q : ℕ) (one other : List ℕ)
@@ -24,7 +24,7 @@ pub fn held_is_unique()
         → (c ≡ d) × (p ≡ q) × (one ≡ other) }
 {}
 
-/// Of the 65,536 counts from `min` on one alone has such low two bytes.
+/// Exactly one of the 65,536 counts from `min` on has given low two bytes.
 pub fn one_count_is_near()
     ensures one { (min low : ℕ) → low < 65536
         → (min ≤ count_near min low) × (count_near min low < min + 65536)

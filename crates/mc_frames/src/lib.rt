@@ -1,8 +1,7 @@
-//! Multicast downlink frames of LoRaWAN 1.0.x, under AES-CMAC (RFC 4493).
-//! A frame is made as the standard says, and bytes are opened exactly where they are such a frame for the address,
-//! with a count that is due; otherwise the first fault is told. That no stranger finds a MIC is not promised.
-//! Which group is heard, and what its keys are, is left to the crates above.
-//!
+//! Multicast downlink frames of LoRaWAN 1.0.x (section 4), under AES-CMAC (RFC 4493). A frame is made as the standard says. Bytes
+//! are opened exactly where they are such a frame for the address, with a count that is due; otherwise the answer is the first
+//! fault. It is not promised that nobody else finds a valid MIC. Which group is heard, and what its keys are, is left to the
+//! crates above.
 //!     let keys = Keys { app_s, net_s };  // McAppSKey and McNetSKey of the group
 //!     let frame = frame(&keys, addr, count, 201, &payload);
 //!     match open(&keys, addr, min, max, frame.as_slice()) {

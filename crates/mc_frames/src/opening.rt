@@ -11,21 +11,22 @@ use crate::sending::{MAX_FRAME, ciphered, mic};
 use crate::session::Keys;
 use wire_base::{Payload, u16_at, u32_at};
 
-/// The fewest bytes that a frame has.
+/// The fewest bytes of a frame.
 const MIN_FRAME: usize = 13;
 
-/// What a frame holds.
+/// What a frame holds (LoRaWAN 1.0.x, 4).
 #[derive(Debug, Drop, PartialEq)]
 pub struct Opened {
-    /// The whole count, of which the frame has the low two bytes.
+    /// The whole frame count, of which the frame has the low two bytes.
     pub count: u32,
-    /// Not 0.
+    /// FPort, 1 to 255.
     pub port: u8,
-    /// As it was before it was encrypted.
+    /// The decrypted payload.
     pub payload: Payload,
 }
 
-/// Opens a frame for the address, with a count from `min` to below `max`, at most 65,535 above `min`.
+/// Opens a frame for the address, with a count from `min` to below `max`, at most 65,535 above `min`; else the first fault. It
+/// takes no memory.
 pub fn open(keys: &Keys, addr: u32, min: u32, max: u32, bytes: &[u8]) -> Result<Opened, FrameFault>
     ensures opened { IfOk result
         (λ o. Holds keys.now addr min max bytes.now o.count o.port o.payload) }
@@ -41,7 +42,7 @@ pub fn open(keys: &Keys, addr: u32, min: u32, max: u32, bytes: &[u8]) -> Result<
     }
 }
 
-/// Why bytes are not opened where no group is heard: the first of Short, Long, Header and Address that holds.
+/// Returns why bytes are not opened where no group is heard: the first of Short, Long, Header and Address that holds.
 #[tactic(auto, unfolding(crate::specs::Opening::fault_without_group))]
 pub fn fault_without_group(bytes: &[u8]) -> FrameFault
     ensures { result ≡ fault_without_group bytes.now }
@@ -112,7 +113,7 @@ fn has_header(bytes: &[u8]) -> bool
     bytes[0] == 0x60 && (bytes[5] == 0x00 || bytes[5] == 0x10)
 }
 
-/// The one of the 65,536 counts from `min` on that has such low two bytes.
+/// The one of the 65,536 counts from `min` on that has these low two bytes.
 fn count_near(min: u32, low: u16) -> u64
     ensures { result ≡ count_near min low }
 {

@@ -10,16 +10,17 @@ use aes_block::Aes128;
 use arrayvec::ArrayVec;
 use wire_base::{MAX_PAYLOAD, Payload};
 
-/// The most bytes that a frame has.
+/// The most bytes of a frame.
 pub const MAX_FRAME: usize = 255;
 
-/// The bytes of a frame. They lie in the value itself.
+/// The bytes of a frame, held in the value itself.
 pub type Frame = ArrayVec<u8, MAX_FRAME>;
 
-/// The most bytes that a MIC is made of: the first block of 16, and 251 of a frame.
+/// The most bytes that a MIC is made over: the first block of 16, and 251 of a frame.
 const MAX_AUTHENTICATED: usize = 267;
 
-/// The frame of a payload for an address, with FCtrl 00. The port is no MAC command's, which would be 0.
+/// Makes the frame (LoRaWAN 1.0.x, 4) of a payload for an address, with FCtrl 00. The port isn't 0, which is that of MAC
+/// commands.
 #[tactic(auto, unfolding(crate::specs::Frames::frame_of))]
 pub fn frame(keys: &Keys, addr: u32, count: u32, port: u8, payload: &Payload) -> Frame
     requires { 0 < port }
@@ -46,7 +47,7 @@ fn message(keys: &Keys, addr: u32, count: u32, port: u8, payload: &Payload) -> F
     frame
 }
 
-/// The MIC of a message.
+/// Returns the MIC of a message.
 pub fn mic(keys: &Keys, addr: u32, count: u32, message: &[u8]) -> [u8; 4]
     requires { length message.now ≤ 251 }
     ensures { result ≡ mic keys.now addr count message.now }
@@ -61,7 +62,7 @@ pub fn mic(keys: &Keys, addr: u32, count: u32, message: &[u8]) -> [u8; 4]
     [code[0], code[1], code[2], code[3]]
 }
 
-/// A payload encrypted, or decrypted.
+/// Encrypts or decrypts a payload.
 pub fn ciphered(key: &[u8; 16], addr: u32, count: u32, bytes: &[u8]) -> Payload
     requires { length bytes.now ≤ max_payload }
     ensures { result ≡ ciphered key.now addr count bytes.now }
@@ -78,7 +79,7 @@ pub fn ciphered(key: &[u8; 16], addr: u32, count: u32, bytes: &[u8]) -> Payload
     Payload::from_slice(&out[..bytes.len()])
 }
 
-/// A block that says which frame it serves.
+/// A block that says which frame it is for.
 fn frame_block(first: u8, addr: u32, count: u32, last: u8) -> [u8; 16]
     ensures { result ≡ frame_block first addr count last }
 {
@@ -94,6 +95,6 @@ fn put<const N: usize>(to: &mut ArrayVec<u8, N>, bytes: &[u8])
     requires { length to.old.items + length bytes.now ≤ N }
     ensures { to.new.items ≡ to.old.items ++ bytes.now }
 {
-    // (it fits, as is asked for)
+    // (it fits, as the contract asks)
     let _fits = to.try_extend_from_slice(bytes);
 }

@@ -1,4 +1,4 @@
--- Groups that are worked out (TS005-1.0.0).
+-- Groups, worked out (TS005-1.0.0).
 use Rattle.std.specs.Prelude.{◌≡◌, ℕ, true, false, List, [], ◌∷◌, replicate, Option, Some, None}
 use Rattle.mc_keys.specs.declared.root_kind.RootKind.TheVariants.{V10, V11}
 use Rattle.mc_keys.specs.WorkedKeys.{worked_gen_app_key, worked_wrapped, worked_key, worked_key_1_1}
@@ -19,7 +19,7 @@ worked_table = Some (worked_group 0x11223344) ∷ None ∷ Some (worked_group 0x
 abbrev pub full_table : List (Option Group)
 full_table = Some (worked_group 10) ∷ Some (worked_group 11) ∷ Some (worked_group 12) ∷ Some (worked_group 13) ∷ []
 
--- a group as it is told
+-- a group as an answer lists it
 abbrev pub told : (id addr : ℕ) → GroupAddress
 told id addr = record { id = id; addr = addr }
 
@@ -38,7 +38,7 @@ pub record WorkedGroups : Type 0 where
   pub first_byte : is_for (group_at worked_table 0) 0x11223345 5 ≡ false
   pub last_byte : is_for (group_at worked_table 0) 0x12223344 5 ≡ false
   pub no_group : is_for (group_at worked_table 1) 0x11223344 5 ≡ false
-  -- all groups are counted, and those that are there and asked for are told in rising order
+  -- all groups are counted, and those that are there and asked for are listed in rising order
   pub all : status_answer worked_table 15 ≡ McGroupStatusAns 2 5 (record { id = 0; addr = 0x11223344 } ∷ record { id = 2; addr = 0x55667788 } ∷ [])
   pub second : status_answer worked_table 6 ≡ McGroupStatusAns 2 4 (record { id = 2; addr = 0x55667788 } ∷ [])
   pub none : status_answer worked_table 10 ≡ McGroupStatusAns 2 0 []

@@ -2,7 +2,7 @@
 
 use mc_keys::Key;
 
-/// A multicast group (TS005-1.0.0, McGroupSetupReq). It has no text, so that its key comes into no log.
+/// A multicast group (TS005-1.0.0, McGroupSetupReq). It has no text, so that its key gets into no log.
 #[derive(Clone, Copy, Default, PartialEq, Eq)]
 pub struct Group {
     /// McAddr.

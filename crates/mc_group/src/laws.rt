@@ -1,4 +1,4 @@
-//! What a server and a device make together.
+//! What a server and a device do together.
 
 ghost use Rattle.std.specs.Prelude.{◌≡◌, ◌<◌, length, Some};
 ghost use Rattle.mc_group.specs.Groups.{group_at};
@@ -31,7 +31,7 @@ pub fn the_wrapped_key_is_held(
     );
 }
 
-/// Groups, the frames that are for them, and their states that are worked out.
+/// Groups, the frames that are for them, and their states, worked out.
 pub fn worked_groups()
     ensures groups { WorkedGroups }
     ensures setup { WorkedSetup }

@@ -10,7 +10,7 @@ use cast_wire::{Cmd, GroupAddress, GroupList, MAX_GROUPS};
 use mc_keys::{Key, RootKind, app_s_key, kek, net_s_key, unwrap_key};
 use std::marker::Model;
 
-/// What becomes of a McGroupSetupReq.
+/// The answer to a McGroupSetupReq (TS005-1.0.0).
 #[derive(Clone, Copy, Debug, PartialEq, Eq)]
 pub enum GroupAnswer {
     /// The group is there.
@@ -19,10 +19,10 @@ pub enum GroupAnswer {
     IdError,
 }
 
-/// What becomes of a McGroupDeleteReq.
+/// The answer to a McGroupDeleteReq (TS005-1.0.0).
 #[derive(Clone, Copy, Debug, PartialEq, Eq)]
 pub enum GroupEnd {
-    /// The group is there no more.
+    /// The group is deleted.
     Ok,
     /// McGroupUndefined: there was none.
     Undefined,
@@ -35,11 +35,11 @@ struct SessionKeys {
     net_s: Key,
 }
 
-/// The groups of a device. Contracts see the list of places, one for each id that is configured. It has no text, as a group.
+/// The groups of a device. Contracts see the list of places, one for each id that is configured. It has no text, like a group.
 #[derive(Drop)]
 pub struct GroupTable {
     places: ArrayVec<Option<Group>, MAX_GROUPS>,
-    /// Those of the group at each place, derived when it is set up and not for each of its frames.
+    /// Those of the group at each place, derived when it is set up, not for each of its frames.
     keys: [SessionKeys; MAX_GROUPS],
 }
 
@@ -56,7 +56,7 @@ impl Model for GroupTable {
 }
 
 impl GroupTable {
-    /// A table for the ids below `number`, at most 4, without groups.
+    /// Makes a table for the ids below `number`, at most 4, without groups; it takes no memory.
     pub fn new(number: u8) -> Self
         requires { number ≤ max_groups }
         ensures { result ≡ replicate number None }
@@ -75,8 +75,9 @@ impl GroupTable {
         }
     }
 
-    /// Answers McGroupSetupReq: a group of frame counts from `min` to below `max` takes the place of what the id had.
-    /// Its key was wrapped for the device whose GenAppKey this is, or whose AppKey, where that makes the root key.
+    /// Takes a McGroupSetupReq: a group of frame counts from `min` to below `max` replaces what the id had; `IdError`, with
+    /// nothing changed, where the id isn't configured. `gen_app_key` is the device's GenAppKey or, where that makes the root key,
+    /// its AppKey.
     pub fn setup(
         &mut self,
         gen_app_key: &Key,
@@ -108,7 +109,7 @@ impl GroupTable {
         GroupAnswer::Ok
     }
 
-    /// A group, or none, takes the place of what an id had, which is to be configured. Its key comes unwrapped, as from `get`.
+    /// Replaces what an id has by a group or none; the id must be configured. The group's key is unwrapped, as `get` returns it.
     pub fn put(&mut self, id: u8, group: Option<Group>)
         requires { id < length self.old }
         ensures { self.new ≡ slice_set self.old id group }
@@ -123,7 +124,7 @@ impl GroupTable {
         }
     }
 
-    /// Answers McGroupDeleteReq: the group of an id ends.
+    /// Takes a McGroupDeleteReq: deletes the group of an id; `Undefined` where it has none.
     pub fn delete(&mut self, id: u8) -> GroupEnd
         ensures undefined { (result ≡ GroupEnd.Undefined) ↔ (group_at self.old id ≡ None) }
         ensures ok { result ≡ GroupEnd.Ok → self.new ≡ slice_set self.old id None }
@@ -136,7 +137,7 @@ impl GroupTable {
         GroupEnd::Ok
     }
 
-    /// The group of an id; None where the id is not configured or has none.
+    /// Returns the group of an id; None where the id is not configured or has none.
     pub fn get(&self, id: u8) -> Option<Group>
         ensures { result ≡ group_at self.now id }
     {
@@ -146,7 +147,7 @@ impl GroupTable {
         self.places[id as usize]
     }
 
-    /// McAppSKey and McNetSKey of the group of an id, which is to be there.
+    /// Returns McAppSKey and McNetSKey of the group of an id, which must be there.
     pub fn keys(&self, id: u8) -> (Key, Key)
         requires { group_at self.now id ≢ None }
         ensures app_s { Some result.0 ≡ option_map group_app_s_key (group_at self.now id) }
@@ -156,7 +157,7 @@ impl GroupTable {
         (keys.app_s, keys.net_s)
     }
 
-    /// Whether a frame is for the group of an id: it is there with that McAddr, and the frame count is within its range.
+    /// Says whether a frame is for the group of an id: it is there with that McAddr, and the frame count is within its range.
     pub fn accepts(&self, id: u8, addr: u32, count: u32) -> bool
         ensures { result ≡ is_for (group_at self.now id) addr count }
     {
@@ -166,7 +167,7 @@ impl GroupTable {
         }
     }
 
-    /// McGroupStatusAns for the groups whose bits are set in a mask, in rising order of their ids.
+    /// Makes the McGroupStatusAns for the groups whose bits are set in a mask, in rising order of their ids.
     pub fn status(&self, mask: u8) -> Cmd<'static>
         ensures value { result ≡ status_answer self.now mask }
         ensures valid { IsValid result }

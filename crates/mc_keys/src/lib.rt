@@ -1,7 +1,6 @@
 //! The keys of a multicast group (TS005-1.0.0, Multicast security; devices of LoRaWAN 1.0 and 1.1).
-//! Each key is the AES-128 that the standard says of the key before it, and the key that was wrapped for a device
-//! is the one that it unwraps.
-//! Where keys are kept, and what is encrypted with them, is left to the crates above.
+//! Each key is the AES-128 encryption that the standard defines over the key before it, and a key that was wrapped for a device
+//! is the one that the device unwraps. Where keys are kept, and what is encrypted with them, is left to the crates above.
 //!
 //!     let kek = kek(&root_1_0(&gen_app_key));  // of LoRaWAN 1.1: root_1_1(&app_key)
 //!     let mc_key = unwrap_key(&kek, &wrapped);  // the server: wrap_key(&kek, &mc_key)

@@ -1,8 +1,8 @@
-/// By which version of LoRaWAN the root key of a device is made.
+/// The version of LoRaWAN by which the root key of a device is made (TS005-1.0.0, Multicast security).
 #[derive(Clone, Copy, Debug, PartialEq, Eq)]
 pub enum RootKind {
-    /// LoRaWAN 1.0: of GenAppKey.
+    /// LoRaWAN 1.0: from GenAppKey.
     V10,
-    /// LoRaWAN 1.1: of AppKey.
+    /// LoRaWAN 1.1: from AppKey.
     V11,
 }

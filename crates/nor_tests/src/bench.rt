@@ -93,7 +93,7 @@ pub struct Stand<F: Flash + Drop> {
     ghost is: { IsReceiver receiver },
 }
 
-/// With what lies in the flash.
+/// With what the flash holds.
 pub fn started<F: Flash + Drop>(rt: &impl Abort, flash: F, empty: Arena) -> Stand<F>
     requires arena { empty ≡ extent }
     requires room { span ≤ (F.seen flash).room }
@@ -105,7 +105,7 @@ pub fn started<F: Flash + Drop>(rt: &impl Abort, flash: F, empty: Arena) -> Stan
     }
 }
 
-/// A session begins, over whatever lives.
+/// A session begins, over whatever is there.
 fn begun<F: Flash + Drop>(
     rt: &impl Abort,
     stand: Stand<F>,

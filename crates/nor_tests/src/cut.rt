@@ -23,7 +23,7 @@ const LOST: u16 = 20;
 /// A driver over the part, and the receiver over it.
 type Driven = Stand<NorFlash<TestPart>>;
 
-/// How many fragments of the session that lives were heard; None where none lives.
+/// How many fragments of the session were heard; None where there is none.
 fn heard_by(receiver: &Receiver) -> Option<u16> {
     match receiver.status(Via::Unicast, true) {
         Some(status) => Some(status.received),
@@ -40,7 +40,7 @@ fn powered(rt: &impl Abort, flash: NorFlash<TestPart>) -> NorFlash<TestPart>
     flash_over(rt, part)
 }
 
-/// With what lies in the flash, once more where the opening is stopped.
+/// With what the flash holds, once more where the opening is stopped.
 fn opened(rt: &impl Abort, flash: NorFlash<TestPart>, empty: Arena) -> Driven
     requires arena { empty ≡ extent }
     requires room { span ≤ flash.size }

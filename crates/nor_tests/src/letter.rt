@@ -34,8 +34,8 @@ impl Letter {
         if self.is_turned { !byte } else { byte }
     }
 
-    /// Writes a stretch, each byte as `byte_of` says. A sector in which a bit has to rise is erased
-    /// once.
+    /// Writes a stretch, each byte as `byte_of` says. A sector in which a bit has to be set is
+    /// erased once.
     fn put(&mut self, at: usize, piece: Option<&[u8]>, len: usize) {
         let from = self.first.saturating_add(at);
         let mut erased = usize::MAX;

@@ -1,4 +1,4 @@
--- Reading a payload has one answer: at a place one command is spelled at most, so one list of commands is read, up to one place.
+-- Reading a payload has one answer: at most one command is spelled at a place, so one list of commands is read, up to one place.
 use Rattle.std.proofs.Common.{◌≡◌, ℕ, ◌<◌, List, [], ◌∷◌, length, Result, Ok, Err, refl, sym, ap, subst, ◌∙◌, inl, inr, arith}
 use Rattle.wire_base.specs.declared.refusal.Direction.{Direction}
 use Rattle.wire_base.specs.declared.refusal.Refusal.{Refusal}
@@ -15,7 +15,7 @@ use Rattle.package_grammar.specs.Grammar.{Spells, SpellsTo, IsMessage, IsPort, r
 use Rattle.package_grammar.proofs.Tables.{sync_port, cast_port, within, moves}
 use Rattle.package_grammar.proofs.Messages.{none_left}
 
--- at a place one command is spelled at most, with one end
+-- at most one command is spelled at a place, with one end
 pub one_spelled : (c d : Command) (port : ℕ) (dir : Direction) (bytes : List ℕ) (at next end : ℕ) → Spells c port dir bytes at next → Spells d port dir bytes at end → (c ≡ d) × (next ≡ end)
 one_spelled (Sync c) (Sync d) port dir bytes at next end first second =
     let same = sync_spellings.one c d port dir bytes at next end (record { listed = first.listed; lies = first.lies; whole = first.whole }) (record { listed = second.listed; lies = second.lies; whole = second.whole }) in
@@ -26,7 +26,7 @@ one_spelled (Cast c) (Cast d) port dir bytes at next end first second =
 one_spelled (Sync c) (Cast d) port dir bytes at next end first second = absurd (omega (arith, (sync_port c port dir first.listed).0, (cast_port d port dir second.listed).1))
 one_spelled (Cast c) (Sync d) port dir bytes at next end first second = absurd (omega (arith, (cast_port c port dir first.listed).1, (sync_port d port dir second.listed).0))
 
--- from a place to the end one list of commands is spelled at most
+-- from a place to the end at most one list of commands is spelled
 pub one_list : (cs ds : List Command) (port : ℕ) (dir : Direction) (bytes : List ℕ) (at : ℕ) → SpellsTo cs port dir bytes at (length bytes) → SpellsTo ds port dir bytes at (length bytes) → cs ≡ ds
 one_list [] ds port dir bytes at all other = sym (none_left ds port dir bytes at all other)
 one_list (c ∷ cs) [] port dir bytes at all other = none_left (c ∷ cs) port dir bytes at other all
@@ -35,7 +35,7 @@ one_list (c ∷ cs) (d ∷ ds) port dir bytes at all other =
     let behind = one_list cs ds port dir bytes other.0 (subst (λ (n : ℕ). SpellsTo cs port dir bytes n (length bytes)) same.1 all.2) other.2 in
     ap (λ (x : Command). x ∷ cs) same.0 ∙ ap (λ (xs : List Command). d ∷ xs) behind
 
--- reading reaches one place at most at which none is spelled
+-- reading reaches at most one place at which none is spelled
 one_place : (cs ds : List Command) (port : ℕ) (dir : Direction) (bytes : List ℕ) (from at end : ℕ) → SpellsTo cs port dir bytes from at → SpellsTo ds port dir bytes from end
     → NoneSpelled port dir bytes at → NoneSpelled port dir bytes end → at ≡ end
 one_place [] [] port dir bytes from at end reached other none another = sym reached ∙ other

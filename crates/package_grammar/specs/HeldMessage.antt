@@ -30,7 +30,7 @@ ShowsCommand old new before after true =
     (command : Command) × TakesCommand old new (Some command) × (after ≡ before ++ text_of command)
 ShowsCommand old new before after false = TakesCommand old new None × (after ≡ before)
 
--- so it is where memory suffices, and else nothing was put
+-- where memory suffices it is so, and else nothing was put
 pub record ShowsNext (old new : HeldMessage) (before after : List ℕ) {E : Type 0} (result : Result Bool E) : Type 0 where
   pub shown : IfOk result (λ more. ShowsCommand old new before after more)
   pub same : OnErr result (after ≡ before)

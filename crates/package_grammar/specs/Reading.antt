@@ -1,5 +1,5 @@
--- What a payload says, as a function. What it must answer is said by the relations of Grammar alone: the law
--- `reading_is_exact` pins it by them, so nobody has to believe how it goes over the bytes.
+-- What a payload says, as a function. The relations of Grammar alone say what it must answer, and the law `reading_is_exact`
+-- holds it to them: nobody has to believe how it goes over the bytes.
 use Rattle.std.specs.Prelude.{ℕ, zero, suc, Bool, not, ◌&&◌, ◌||◌, nat_le, nat_lt, if◌then◌else◌, List, [], ◌∷◌, length, Some, None, Result, Ok, Err}
 use Rattle.wire_base.specs.declared.refusal.Direction.{Direction}
 use Rattle.wire_base.specs.declared.refusal.Refusal.{Refusal}

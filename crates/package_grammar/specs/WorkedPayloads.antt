@@ -111,7 +111,7 @@ pub record WorkedMessages : Type 0 where
   -- a fragment takes all that is left
   pub fragment_last : reading_of 201 Down (0x03 ∷ 0x01 ∷ 0x08 ∷ 0x01 ∷ 0x00 ∷ 0x11 ∷ [])
       ≡ Ok (Cast (c.FragSessionDeleteReq 1) ∷ Cast (c.DataFragment 0 1 (0x11 ∷ [])) ∷ [])
-  -- it has one byte at least, and none goes up
+  -- it has one byte at least, and no device sends one
   pub no_fragment : reading_of 201 Down (0x01 ∷ 0x01 ∷ 0x08 ∷ 0x01 ∷ 0x00 ∷ [])
       ≡ Err (record { at = 5; why = Short })
   pub not_up : reading_of 201 Up (0x08 ∷ 0x01 ∷ 0x00 ∷ 0x11 ∷ [])
@@ -138,7 +138,7 @@ pub record WorkedMessages : Type 0 where
   pub version_203 : reading_of 203 Down (0x00 ∷ []) ≡ Ok (Sync s.PackageVersionReq ∷ [])
   pub version_ans_200 : reading_of 200 Up (0x00 ∷ 0x02 ∷ 0x01 ∷ []) ≡ Ok (Cast (c.PackageVersionAns 2 1) ∷ [])
   pub version_ans_203 : reading_of 203 Up (0x00 ∷ 0x04 ∷ 0x01 ∷ []) ≡ Ok (Sync (s.PackageVersionAns 4 1) ∷ [])
-  -- a status of 3 wants the next version after it
+  -- a status of 3 needs the next version after it
   pub no_version : reading_of 203 Up (0x04 ∷ 0x03 ∷ 0x02 ∷ 0x00 ∷ 0x00 ∷ [])
       ≡ Err (record { at = 5; why = Short })
   pub no_next : reading_of 203 Up (0x04 ∷ 0x02 ∷ []) ≡ Ok (Sync (s.DevUpgradeImageAns 2 None) ∷ [])

@@ -1,4 +1,4 @@
--- The text of each command, worked out: a command a row, and each truth value, sign and absent number that a text tells apart.
+-- The text of each command, worked out: a command a row, and each truth value, sign and absent number that a text distinguishes.
 use Rattle.std.specs.Prelude.{◌≡◌, ℕ, pos, negsuc, true, false, List, [], ◌∷◌, codes, Some, None}
 use Rattle.sync_wire.specs.declared.cmd.Cmd.TheVariants as s
 use Rattle.cast_wire.specs.declared.cmd.Cmd.TheVariants as c

@@ -26,7 +26,7 @@ pub struct Downlink {
 }
 
 impl Downlink {
-    /// Without bytes, to be written into.
+    /// Makes a downlink without bytes, to be written into.
     pub fn blank() -> Self
         ensures { result ≡ record { to = to.Unicast; port = 0; payload = [] } }
     {
@@ -38,7 +38,7 @@ impl Downlink {
     }
 }
 
-/// A payload on its way to devices, whose bytes are borrowed. Contracts see the downlink that it is.
+/// A payload on its way to devices, whose bytes are borrowed. Contracts see it as a downlink.
 #[derive(Drop)]
 pub struct DownlinkRef<'a> {
     to: To,
@@ -59,7 +59,7 @@ impl<'a> Model for DownlinkRef<'a> {
 }
 
 impl<'a> DownlinkRef<'a> {
-    /// A payload of at most `MAX_PAYLOAD` bytes.
+    /// Makes a downlink of at most `MAX_PAYLOAD` borrowed bytes.
     pub fn new(to: To, port: u8, bytes: &'a [u8]) -> Self
         requires { length bytes.now ≤ max_payload }
         ensures { result ≡ record { to = to; port = port; payload = bytes.now } }
@@ -67,7 +67,7 @@ impl<'a> DownlinkRef<'a> {
         DownlinkRef { to, port, bytes }
     }
 
-    /// One whose bytes lie in a downlink.
+    /// Borrows the bytes of a downlink.
     pub fn of(down: &'a Downlink) -> Self
         ensures { result ≡ down.now }
     {
@@ -78,21 +78,21 @@ impl<'a> DownlinkRef<'a> {
         }
     }
 
-    /// Whom it is for.
+    /// Returns whom it is for.
     pub fn to(&self) -> To
         ensures { result ≡ self.now.to }
     {
         self.to
     }
 
-    /// The port of its package.
+    /// Returns the port of its package.
     pub fn port(&self) -> u8
         ensures { result ≡ self.now.port }
     {
         self.port
     }
 
-    /// Its bytes.
+    /// Returns its bytes.
     pub fn bytes(&self) -> &'a [u8]
         ensures value { result.now ≡ self.now.payload }
         ensures within { length result.now ≤ max_payload }
@@ -100,7 +100,7 @@ impl<'a> DownlinkRef<'a> {
         self.bytes
     }
 
-    /// A downlink of its own with the same bytes.
+    /// Makes a downlink with its own copy of the bytes.
     pub fn copied(&self) -> Downlink
         ensures { result ≡ self.now }
     {

@@ -9,8 +9,7 @@ ghost use Rattle.package_grammar.specs.Reading.{reading_of};
 ghost use Rattle.package_grammar.specs.WorkedPayloads.{ReservedBits, WorkedMessages};
 ghost use Rattle.package_grammar.specs.WorkedTexts.{SyncTexts, FragmentTexts, GroupTexts};
 
-/// A payload is read as these commands exactly where it is a message of them, and as this refusal exactly where reading
-/// it stops so.
+/// A payload is read as these commands exactly where it is a message of them, and refused so exactly where reading it stops so.
 pub fn reading_is_exact()
     ensures message { (port : ℕ) (dir : Direction) (bytes : List ℕ) (cs : List Command)
         → (reading_of port dir bytes ≡ Ok cs) ↔ IsMessage cs port dir bytes }
@@ -18,13 +17,13 @@ pub fn reading_is_exact()
         → (reading_of port dir bytes ≡ Err refusal) ↔ IsStop port dir bytes refusal }
 {}
 
-/// What is written alone is read as that command alone.
+/// A command that is written alone is read as that command alone.
 pub fn written_is_read()
     ensures { (c : Command) (port : ℕ) (dir : Direction) → IsValid c → IsListed (row c) port dir
         → reading_of port dir (canonical c) ≡ Ok (c ∷ []) }
 {}
 
-/// What is written alone is a message of that command, so every valid command fits into a payload.
+/// A command that is written alone is a message of that command, so every valid command fits into a payload.
 pub fn written_is_message()
     ensures { (c : Command) (port : ℕ) (dir : Direction) → IsValid c → IsListed (row c) port dir
         → IsMessage (c ∷ []) port dir (canonical c) }

@@ -1,9 +1,9 @@
 //! The commands of all four packages of firmware update over LoRaWAN, and payloads of several commands: clock
 //! synchronization (TS003-1.0.0, port 202), fragmented data block transport (TS004-1.0.0, port 201), remote multicast
 //! setup (TS005-1.0.0, port 200) and firmware management (TS006-1.0.0, port 203).
-//! A payload is read as a message of its commands exactly where they spell it from its first byte to its last, and else
-//! it is answered where and why reading stops; a valid command is written in its canonical spelling, and read again.
-//! What a command does is left to the device and the server above.
+//! A payload is read as a message exactly where its commands spell it from its first byte to its last; else the answer says where
+//! and why reading stops. A valid command is written in its canonical spelling, and read again. What a command does is left to
+//! the device and the server above.
 //!
 //!     let mut message = Message::read(port, Direction::Down, payload)?;   // or where and why reading stops
 //!     while let Some(command) = message.next() {

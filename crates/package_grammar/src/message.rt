@@ -19,8 +19,7 @@ use std::alloc::AllocError;
 use std::marker::Model;
 use wire_base::{Direction, MAX_PAYLOAD, Refusal};
 
-/// A payload that was read whole and is a message. It hands out its commands one by one; contracts see those that are
-/// left.
+/// A payload that was read whole and is a message. It gives its commands one by one; contracts see those that are left.
 #[derive(Drop)]
 pub struct Message<'a> {
     port: u8,
@@ -46,7 +45,7 @@ impl<'a> Model for Message<'a> {
 }
 
 impl<'a> Message<'a> {
-    /// Reads a payload whole: a message of its commands, or the place at which reading stops, and why.
+    /// Reads a whole payload: a message of its commands, or the place at which reading stops, and why.
     pub fn read(port: u8, direction: Direction, bytes: &'a [u8]) -> Result<Self, Refusal>
         ensures reading { result ≡ message_of port direction (reading_of port direction bytes.now) }
         ensures few { IfOk result (λ m. length m.commands ≤ max_payload) }
@@ -75,7 +74,7 @@ impl<'a> Message<'a> {
         })
     }
 
-    /// The next command; None exactly where none is left.
+    /// Takes the next command; None exactly where none is left.
     #[inline(always)]
     pub fn next(&mut self) -> Option<Command<'a>>
         ensures takes { TakesCommand self.old self.new result }
@@ -94,7 +93,7 @@ impl<'a> Message<'a> {
         }
     }
 
-    /// The text of the next command, which is then taken, where it is one without fields.
+    /// Takes the next command and returns its text, where it is one without fields.
     #[inline(always)]
     pub(crate) fn next_name(&mut self) -> Option<&'static str>
         ensures named { IfSome result (λ name. (c : Command)
@@ -132,7 +131,7 @@ impl<'a> Message<'a> {
         }
     }
 
-    /// The DataFragment that comes next, and is then the last command; its bytes stay where they lie. None exactly where
+    /// Returns the DataFragment that comes next, which is then the last command; its bytes are not copied. None exactly where
     /// none comes next.
     pub fn fragment(&self) -> Option<Fragment<'a>>
         ensures leaves { LeavesFragment self.now result }
@@ -144,7 +143,7 @@ impl<'a> Message<'a> {
         }
     }
 
-    /// The DataFragment that comes next, which is then taken. None exactly where none comes next.
+    /// Takes the DataFragment that comes next. None exactly where none comes next.
     #[inline(always)]
     pub(crate) fn next_fragment(&mut self) -> Option<Fragment<'a>>
         ensures taken { IfSome result (λ f. TakesCommand self.old self.new
@@ -160,7 +159,7 @@ impl<'a> Message<'a> {
         }
     }
 
-    /// The same commands once more.
+    /// Makes a second message of the same commands.
     pub fn again(&self) -> Message<'a>
         ensures { result ≡ self.now }
     {
@@ -172,7 +171,7 @@ impl<'a> Message<'a> {
         }
     }
 
-    /// How many commands are left.
+    /// Returns how many commands are left.
     pub fn count(mut self) -> u16
         requires { length self.commands ≤ max_payload }
         ensures { result ≡ length self.entry.commands }

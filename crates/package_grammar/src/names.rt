@@ -8,7 +8,7 @@ use cast_wire::MULTICAST_PORT;
 use sync_wire::{DEV_VERSION, FIRMWARE_PORT, PACKAGE_VERSION, UPGRADE_IMAGE};
 use wire_base::{Direction, u8_at};
 
-/// The text of the command at a place of a payload, where it is one of those without fields.
+/// Returns the text of the command at a place of a payload, where it is one of those without fields.
 pub fn name_at(port: u8, dir: Direction, bytes: &[u8], at: u16) -> Option<&'static str>
     requires { at < length bytes.now }
     ensures { IfSome result
@@ -25,7 +25,7 @@ pub fn name_at(port: u8, dir: Direction, bytes: &[u8], at: u16) -> Option<&'stat
     }
 }
 
-/// Whether the port is one of the four packages'.
+/// Says whether the port is one of the four packages'.
 pub fn is_port(port: u8) -> bool
     ensures { IsTrue result ↔ IsPort port }
 {

@@ -7,8 +7,8 @@ ghost use Rattle.package_grammar.specs.Grammar.{Spells, IsValid, IsRefusal};
 use crate::command::Command;
 use wire_base::{Direction, Refusal};
 
-/// The command at a place of a payload, and the place after it; reserved bits are ignored.
-/// Else the first cause: `Port` at 0, `TooLong` at 242, `UnknownCommand` at the place, `Short` at the payload's end.
+/// Reads the command at a place of a payload, and returns it with the place after it; reserved bits are ignored. Else the first
+/// cause: `Port` at 0, `TooLong` at 242, `UnknownCommand` at the place, `Short` at the payload's end.
 #[inline(always)]
 #[tactic(auto, using(crate::proofs::Tables::sync_cause, crate::proofs::Tables::cast_cause, crate::proofs::Tables::not_sync, crate::proofs::Tables::not_cast, crate::proofs::Tables::within))]
 pub fn read_one(

@@ -10,13 +10,13 @@ use crate::showing_parts::put_fragment;
 use crate::showing_sync::put_sync;
 use std::alloc::AllocError;
 
-/// The room that a text has at first: enough for each command but a DataFragment, whose bytes' digits make it grow.
+/// The bytes that a text has room for at first: enough for each command but a DataFragment, whose hex digits make it grow.
 const TEXT_ROOM: usize = 120;
 
-/// Puts the text of a command at the end: its name, and a word for each field, several error flags together as one
-/// `bits=`. Numbers are decimal, addresses and descriptors 8 hex digits with the most significant first, keys and
-/// fragments two hex digits a byte in their order, groups `id:address` parted by commas, truth values 0 or 1, and what
-/// is absent is `-`; no line feed. Where memory is wanting nothing is put.
+/// Puts the text of a command at the end: its name, and a word for each field, several error flags together as one `bits=`.
+/// Numbers are decimal, addresses and descriptors 8 hex digits with the most significant first, keys and fragments two hex digits
+/// a byte in their order, groups `id:address` separated by commas, truth values 0 or 1, and an absent field `-`; no line feed.
+/// Where memory is missing nothing is put.
 pub fn show(command: &Command, out: &mut Vec<u8>) -> Result<(), AllocError>
     ensures shown { OnOk result (out.new.items ≡ out.old.items ++ text_of command.now) }
     ensures same { OnErr result (out.new.items ≡ out.old.items) }
@@ -27,9 +27,8 @@ pub fn show(command: &Command, out: &mut Vec<u8>) -> Result<(), AllocError>
 }
 
 impl<'a> Message<'a> {
-    /// Takes the next command and puts its text at the end, as `show` does; false exactly where none is left. The text is
-    /// made in `room`, of which nothing is kept but its memory. Where memory is wanting nothing is put, and the command may
-    /// be taken.
+    /// Takes the next command and puts its text at the end, as `show` does; false exactly where none is left. The text is made in
+    /// `room`, whose content is not kept. Where memory is missing nothing is put, and the command may be taken.
     pub fn show_next(&mut self, room: &mut String, out: &mut Vec<u8>) -> Result<bool, AllocError>
         ensures { ShowsNext self.old self.new out.old.items out.new.items result }
     {
@@ -42,7 +41,7 @@ impl<'a> Message<'a> {
         }
     }
 
-    /// The same, a DataFragment from where it lies.
+    /// The same, with a DataFragment's bytes not copied.
     fn show_fields(&mut self, room: &mut String, out: &mut Vec<u8>) -> Result<bool, AllocError>
         ensures { ShowsNext self.old self.new out.old.items out.new.items result }
     {
@@ -57,7 +56,7 @@ impl<'a> Message<'a> {
         }
     }
 
-    /// The same. It stands alone, so that none of the others sees to the room for a whole command.
+    /// The same. It is a function by itself, so that none of the others has to make room for a whole command.
     #[inline(never)]
     fn show_whole(&mut self, room: &mut String, out: &mut Vec<u8>) -> Result<bool, AllocError>
         ensures { ShowsNext self.old self.new out.old.items out.new.items result }

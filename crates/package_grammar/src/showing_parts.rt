@@ -40,7 +40,7 @@ fn put_bytes_hex(bytes: &[u8], text: &mut String) -> Result<(), AllocError>
     put_text(digits.as_str(), text)
 }
 
-/// Puts a number at the end; it is quick where it is one digit.
+/// Puts a number at the end, quickly where it has one digit.
 #[inline(always)]
 pub fn put_small(number: u8, text: &mut String) -> Result<(), AllocError>
     ensures { OnOk result (string_bytes text.new ≡ string_bytes text.old ++ decimal number) }
@@ -61,7 +61,7 @@ pub fn put_word(head: &str, number: u8, text: &mut String) -> Result<(), AllocEr
     put_small(number, text)
 }
 
-/// The same of a larger number.
+/// Puts a head and then a larger number at the end.
 pub fn put_number(head: &str, number: u32, text: &mut String) -> Result<(), AllocError>
     ensures { OnOk result
         (string_bytes text.new ≡ string_bytes text.old ++ (head.now ++ decimal number)) }
@@ -70,7 +70,7 @@ pub fn put_number(head: &str, number: u32, text: &mut String) -> Result<(), Allo
     write!(text, "{number}")
 }
 
-/// The same of a truth value, 0 or 1.
+/// Puts a head and then a truth value, 0 or 1, at the end.
 pub fn put_truth(head: &str, value: bool, text: &mut String) -> Result<(), AllocError>
     ensures { OnOk result
         (string_bytes text.new ≡ string_bytes text.old ++ (head.now ++ truth value)) }
@@ -78,7 +78,7 @@ pub fn put_truth(head: &str, value: bool, text: &mut String) -> Result<(), Alloc
     put_word(head, flag_value(value, 1), text)
 }
 
-/// The same of a number that may be absent: a dash then.
+/// Puts a head and then a number at the end, or a dash where there is none.
 pub fn put_there(head: &str, number: Option<u32>, text: &mut String) -> Result<(), AllocError>
     ensures { OnOk result
         (string_bytes text.new ≡ string_bytes text.old ++ (head.now ++ there number)) }
@@ -160,7 +160,7 @@ fn put_groups(groups: &[GroupAddress], text: &mut String) -> Result<(), AllocErr
     }
 }
 
-/// A FragSessionSetupReq.
+/// Puts a FragSessionSetupReq (TS004-1.0.0).
 pub fn put_setup(
     index: u8,
     mask: u8,
@@ -180,7 +180,7 @@ pub fn put_setup(
     put_coding(algo, delay, padding, descriptor, text)
 }
 
-/// A FragSessionSetupReq's session and pieces.
+/// Puts a FragSessionSetupReq's session and pieces.
 fn put_pieces(
     index: u8,
     mask: u8,
@@ -197,7 +197,7 @@ fn put_pieces(
     put_word(" fragsize=", frag_size, text)
 }
 
-/// A FragSessionSetupReq's coding, and what the file is.
+/// Puts a FragSessionSetupReq's coding, and what the file is.
 fn put_coding(
     algo: u8,
     delay: u8,
@@ -215,7 +215,7 @@ fn put_coding(
     put_number_hex(descriptor, text)
 }
 
-/// A FragSessionStatusAns.
+/// Puts a FragSessionStatusAns (TS004-1.0.0).
 pub fn put_counts(
     index: u8,
     received: u16,
@@ -234,7 +234,7 @@ pub fn put_counts(
     put_truth(" norows=", norows, text)
 }
 
-/// A McGroupSetupReq.
+/// Puts a McGroupSetupReq (TS005-1.0.0).
 pub fn put_group_setup(
     id: u8,
     addr: u32,
@@ -250,7 +250,7 @@ pub fn put_group_setup(
     put_frames(min, max, text)
 }
 
-/// A McGroupSetupReq's group, with its wrapped key.
+/// Puts a McGroupSetupReq's group, with its wrapped key.
 fn put_group_key(id: u8, addr: u32, key: &[u8], text: &mut String) -> Result<(), AllocError>
     ensures { OnOk result
         (string_bytes text.new ≡ string_bytes text.old ++ group_key_text id addr key.now) }
@@ -262,7 +262,7 @@ fn put_group_key(id: u8, addr: u32, key: &[u8], text: &mut String) -> Result<(),
     put_bytes_hex(key, text)
 }
 
-/// A McGroupSetupReq's frame counts.
+/// Puts a McGroupSetupReq's frame counts.
 fn put_frames(min: u32, max: u32, text: &mut String) -> Result<(), AllocError>
     ensures { OnOk result (string_bytes text.new ≡ string_bytes text.old ++ frames_text min max) }
 {
@@ -270,7 +270,7 @@ fn put_frames(min: u32, max: u32, text: &mut String) -> Result<(), AllocError>
     put_number(" max=", max, text)
 }
 
-/// A McClassCSessionReq.
+/// Puts a McClassCSessionReq (TS005-1.0.0).
 pub fn put_class_c(
     id: u8,
     time: u32,
@@ -290,7 +290,7 @@ pub fn put_class_c(
     put_session(timeout, freq, dr, text)
 }
 
-/// A McClassBSessionReq.
+/// Puts a McClassBSessionReq (TS005-1.0.0).
 pub fn put_class_b(
     id: u8,
     time: u32,
@@ -313,7 +313,7 @@ pub fn put_class_b(
     put_session(timeout, freq, dr, text)
 }
 
-/// How long a session lasts at most, and how it is heard.
+/// Puts how long a session lasts at most, and how it is heard.
 fn put_session(timeout: u8, freq: u32, dr: u8, text: &mut String) -> Result<(), AllocError>
     ensures { OnOk result (string_bytes text.new
         ≡ string_bytes text.old ++ (codes " timeout=" ++ decimal timeout
@@ -324,7 +324,7 @@ fn put_session(timeout: u8, freq: u32, dr: u8, text: &mut String) -> Result<(), 
     put_word(" dr=", dr, text)
 }
 
-/// What became of a session's request: its bits, and when the session begins.
+/// Puts the answer to a session's request: its bits, and when the session begins.
 pub fn put_session_answer(
     head: &str,
     id: u8,
@@ -341,7 +341,7 @@ pub fn put_session_answer(
     put_there(" start=", start, text)
 }
 
-/// A DataFragment.
+/// Puts a DataFragment (TS004-1.0.0).
 pub fn put_fragment(index: u8, n: u16, bytes: &[u8], text: &mut String) -> Result<(), AllocError>
     ensures { OnOk result
         (string_bytes text.new ≡ string_bytes text.old ++ fragment_text index n bytes.now) }
@@ -352,7 +352,7 @@ pub fn put_fragment(index: u8, n: u16, bytes: &[u8], text: &mut String) -> Resul
     put_bytes_hex(bytes, text)
 }
 
-/// A McGroupStatusAns.
+/// Puts a McGroupStatusAns (TS005-1.0.0).
 pub fn put_status(
     total: u8,
     mask: u8,

@@ -1,4 +1,4 @@
-//! The text of a command where it lies.
+//! The text of a command at its place.
 ghost use Rattle.std.specs.Prelude.{◌≡◌, ◌≢◌, ℕ, ◌<◌, ◌≤◌, Ok, None, IfOk, IfSome, length, string_bytes};
 ghost use Rattle.wire_base.specs.Payload.{max_payload};
 ghost use Rattle.sync_wire.specs.declared.cmd.Cmd.{Cmd as SyncCmd};
@@ -15,8 +15,8 @@ use std::alloc::AllocError;
 use sync_wire::{CLOCK_PORT, FIRMWARE_PORT};
 use wire_base::Direction;
 
-/// Puts the text of the command at a place of a payload at the end, and says which place is after it; None exactly where
-/// none is spelled there. The command is looked at where it was read, and not moved.
+/// Puts the text of the command at a place of a payload at the end, and returns the place after it; None exactly where none is
+/// spelled there. The command is shown where it was read, and not moved.
 #[tactic(auto, using(crate::proofs::Tables::not_sync, crate::proofs::Tables::not_cast))]
 pub(crate) fn put_at(
     port: u8,
@@ -46,7 +46,7 @@ pub(crate) fn put_at(
     }
 }
 
-/// The same of the commands of ports 202 and 203.
+/// The same for the commands of ports 202 and 203.
 fn put_sync_at(
     port: u8,
     dir: Direction,
@@ -70,8 +70,8 @@ fn put_sync_at(
     }
 }
 
-/// The same of the commands of ports 200 and 201. It is made for each port and direction by itself, since the compiler then
-/// sees which commands there are.
+/// The same for the commands of ports 200 and 201. It is compiled for each port and direction by itself, since the compiler then
+/// knows which commands there are.
 #[inline(always)]
 fn put_cast_at(
     port: u8,

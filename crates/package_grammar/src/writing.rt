@@ -7,14 +7,14 @@ ghost use Rattle.package_grammar.specs.Grammar.{row, IsValid, canonical};
 use crate::command::Command;
 use wire_base::{Direction, Full, Payload};
 
-/// Puts the canonical spelling of a command at the end, whole or not at all. Port and direction are those in which the
-/// table has the command; its bytes are the same in each.
+/// Puts the canonical spelling of a command at the end, whole or not at all; `Full` where there is no room. Port and direction
+/// are those in which the table has the command; its bytes are the same in each.
 pub fn write_one(port: u8, dir: Direction, command: &Command, out: &mut Payload) -> Result<(), Full>
     requires valid { IsValid command.now }
     requires listed { IsListed (row command.now) port dir }
     ensures { Appends out.old out.new (canonical command.now) result }
 {
-    // where the command goes matters to what is asked for alone
+    // Only the contract asks where the command goes.
     let _where = (port, dir);
     match command {
         Command::Sync(cmd) => sync_wire::write_one(cmd, out),
@@ -34,7 +34,7 @@ pub fn spell(port: u8, direction: Direction, command: &Command, payload: &mut Pa
     let _fits = write_one(port, direction, command, payload);
 }
 
-/// A payload of one command in its canonical spelling.
+/// Makes a payload of one command in its canonical spelling.
 pub fn spelled(port: u8, direction: Direction, command: &Command) -> Payload
     requires valid { IsValid command.now }
     requires listed { IsListed (row command.now) port direction }

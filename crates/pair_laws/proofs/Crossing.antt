@@ -1,4 +1,4 @@
--- A payload for another index changes nothing of a device but its counters, where no reboot is to come.
+-- A payload for another index changes only a device's counters, where no reboot will come.
 use Rattle.std.proofs.Common.{◌≡◌, ℕ, true, None, refl, sym, ap, ◌∙◌, subst}
 use Rattle.wire_base.specs.declared.refusal.Direction.TheVariants.{Down}
 use Rattle.package_grammar.specs.declared.downlink.Downlink.{Downlink}

@@ -1,4 +1,4 @@
--- What a payload that crosses over makes of a device (this project's profile).
+-- How a payload of another campaign changes a device (this project's profile).
 use Rattle.std.specs.Prelude.{◌≡◌, ℕ, true, None}
 use Rattle.wire_base.specs.declared.refusal.Direction.TheVariants.{Down}
 use Rattle.package_grammar.specs.declared.downlink.Downlink.{Downlink}

@@ -1,4 +1,4 @@
--- What holds of each of two campaigns that share a script (this project's profile): the laws of one campaign, over its own image
+-- What holds for each of two campaigns that share a script (this project's profile): the laws of one campaign, over its own image
 -- and what the lines say to it.
 use Rattle.std.specs.Prelude.{◌≡◌, ℕ, ◌<◌, List, length, Some, Ok}
 use Rattle.wire_base.specs.Numbered.{numbered}
@@ -26,7 +26,7 @@ pub record IsSessionOf (x : Campaign) (image_a image_b : List ℕ) (lines : List
   pub index_is : index < 4
   pub session_is : session_at device.sessions index ≡ Some s
 
--- whatever images and accepted script there are
+-- for any images and any accepted script
 pub record EachHasItsVerdicts : Type 0 where
   -- a session hears nothing but what the lines bring its device, each fragment at its line
   pub heard : (x : Campaign) (image_a image_b : List ℕ) (lines : List (List ℕ)) (pair : PairState) (id : ℕ) (device : DeviceState) (index : ℕ) (s : Session)
@@ -38,7 +38,7 @@ pub record EachHasItsVerdicts : Type 0 where
   pub decided : (x : Campaign) (image_a image_b : List ℕ) (lines : List (List ℕ)) (pair : PairState) (id : ℕ) (device : DeviceState) (index : ℕ) (s : Session)
       → IsSessionOf x image_a image_b lines pair id device index s → IsDecidedAtFirst s
 
--- each device of either is its own first record, after what the lines let happen at it alone
+-- each device of either is its own first record, changed only by what the lines let happen at it
 abbrev pub EachHasItsDevices : Type 0
 EachHasItsDevices = (x : Campaign) (image_a image_b : List ℕ) (lines : List (List ℕ)) (pair : PairState) (id : ℕ)
     → campaigns_of image_a image_b lines ≡ Ok pair

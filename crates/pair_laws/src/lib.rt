@@ -1,5 +1,5 @@
-//! What holds of two campaigns that share a script, whichever lines it has: the laws of one campaign, over what the lines say to
-//! each of the two. There is no code here: the laws are said of what `pair_run` takes and holds.
+//! What holds for two campaigns that share a script, whichever lines it has: the laws of one campaign, over what the lines say to
+//! each of the two. There is no code here: the laws are about what `pair_run` takes and holds.
 #![tactic(auto)]
 
 mod laws;

@@ -78,7 +78,7 @@ pub target_is : (held : HeldPair) (a b : List DeviceState) (owners : List Owner)
 target_is held a b owners count_a count_b form target is owners_are a_is b_is long_a long_b =
     rw (long_a, long_b, ← owners_are, ← a_is, ← b_is) is
 
--- ---- nothing refuses it in the campaign whose it is
+-- ---- nothing refuses it in its own campaign
 
 some_devices : (n : ℕ) → (ds : List DeviceState) × (length ds ≡ n)
 some_devices zero = ([], refl)

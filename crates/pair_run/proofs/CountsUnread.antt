@@ -1,4 +1,4 @@
--- No counter is ever read: devices that differ in their counters alone go the same way.
+-- No counter is ever read: devices that differ only in their counters go the same way.
 use Rattle.std.proofs.Common.{◌≡◌, ℕ, ◌+◌, Bool, true, false, cond, List, [], ◌∷◌, length, nat_lt, nat_le, slice_set, Option, Some, None, is_none, Result, Ok, Err, refl, sym, ap, subst}
 use Rattle.wire_base.specs.declared.refusal.Direction.TheVariants.{Down}
 use Rattle.cast_wire.specs.declared.cmd.Cmd.TheVariants as c

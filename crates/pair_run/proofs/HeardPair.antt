@@ -61,7 +61,7 @@ hears old new line (Err (error.Line fault)) step kept same (Ok pair) (inr stands
     inr (subst (λ (o : Outcome). PairIs new o) (sym (read_by pair line (Some fault.why) answer.0 ∙ made)) kept)
 hears old new line (Err error.Memory) step kept same (Ok pair) (inr stands) = inl kept
 
--- after a refused line, or want of memory, none does more
+-- after a refused line, or missing memory, none does more
 pub hears_no_more : (held : HeldPair) (line : List ℕ) (e : LineError) → held.kept ≡ Some e → HearsPairLine held line held
 hears_no_more held line e is =
     hears held held line (Err e) (λ pair stands none. absurd cc) is

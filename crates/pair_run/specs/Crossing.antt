@@ -1,4 +1,4 @@
--- What crosses over on the air (this project's profile): the frame of a payload to a group, at a device that hears none with
+-- What goes across on the air (this project's profile): the frame of a payload to a group, at a device that hears no group with
 -- that address.
 use Rattle.std.specs.Prelude.{◌≡◌, ℕ, ◌^◌, ◌<◌, List, Some}
 use Rattle.mc_group.specs.declared.group.Group.{Group}

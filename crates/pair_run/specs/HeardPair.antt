@@ -1,4 +1,4 @@
--- A pair after the lines that it has heard, whatever came of them.
+-- A pair after the lines that it has heard, whichever they were.
 use Rattle.std.specs.Prelude.{◌≡◌, ◌⊎◌, ℕ, List, [], ◌∷◌, None, Some, Result, Ok, Err}
 use Rattle.report_lines.specs.declared.faults.LineError.TheVariants as error
 use Rattle.report_lines.specs.declared.faults.LineFault.{LineFault}
@@ -11,7 +11,7 @@ abbrev pub PairIs : HeldPair → Result PairState LineFault → Type 0
 PairIs held (Ok pair) = (held.kept ≡ None) × PairStands held pair
 PairIs held (Err fault) = held.kept ≡ Some (error.Line fault)
 
--- or memory was wanting
+-- or memory was missing
 abbrev pub PairIsIf : HeldPair → Result PairState LineFault → Type 0
 PairIsIf held so_far = (held.kept ≡ Some error.Memory) ⊎ PairIs held so_far
 

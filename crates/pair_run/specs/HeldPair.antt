@@ -30,15 +30,15 @@ pub record PairStands (held : HeldPair) (pair : PairState) : Type 0 where
   pub b : WorldStands held.b pair.b
   pub owners : pair.owners ≡ held.owners
 
--- whatever two campaigns were stood for, these of them are stood for now
+-- for any two campaigns that were stood for, these of them are stood for now
 abbrev pub PairBecomes : (old new : HeldPair) → (PairState → PairState) → Type 0
 PairBecomes old new after = (pair : PairState) → PairStands old pair → PairStands new (after pair)
 
--- whatever two were stood for, the devices and the servers of both are stood for now
+-- for any two that were stood for, the devices and the servers of both are stood for now
 abbrev pub PairKeepsEnds : (old new : HeldPair) → Type 0
 PairKeepsEnds old new = (pair : PairState) → PairStands old pair → EndsStand new.a pair.a × EndsStand new.b pair.b
 
--- the answer to a line: it was taken, or it is the first refused line with its first cause, or memory was wanting
+-- the answer to a line: it was taken, or it is the first refused line with its first cause, or memory was missing
 abbrev pub IsPairAnswer : PairState → (line : List ℕ) → (new : HeldPair) → Result (Unit {0}) LineError → Type 0
 IsPairAnswer pair line new (Ok done) = (pair_cause_of pair line ≡ None) × PairStands new (after_pair_line pair line) × (new.kept ≡ None)
 IsPairAnswer pair line new (Err (error.Line fault)) =
@@ -67,7 +67,7 @@ abbrev pub held_side : HeldPair → Campaign → HeldWorld
 held_side held campaign.A = held.a
 held_side held campaign.B = held.b
 
--- a fact of the two campaigns, whatever devices it stands for
+-- a fact of the two campaigns, for any devices it stands for
 abbrev pub OfBoth : HeldPair → (PairState → Type 0) → Type 0
 OfBoth held fact = (a b : List DeviceState) → length a ≡ length held.a.devices → length b ≡ length held.b.devices → fact (pair_of held a b)
 
@@ -79,7 +79,7 @@ pub record IsCrossing (from to : HeldWorld) (number device word : ℕ) : Type 0 
   pub random : word < 2 ^ 32
   pub sent : (s : SentPayload) × (numbered from.sent number ≡ Some s)
 
--- nothing refuses the line in the campaign whose it is
+-- nothing refuses the line in its own campaign
 abbrev pub IsFineTarget : HeldPair → Target → Type 0
 IsFineTarget held Header = IsFine held.a form.Header × IsFine held.b form.Header
 IsFineTarget held (At time) = IsFine held.a (form.At time) × IsFine held.b (form.At time)

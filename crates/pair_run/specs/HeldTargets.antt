@@ -1,4 +1,4 @@
--- What the code keeps of what a line says: whose it is, beside its form.
+-- What the code keeps of what a line says: its campaign, besides its form.
 use Rattle.std.specs.Prelude.{ℕ, if◌then◌else◌, Option, Some, None}
 use Rattle.script_lines.specs.declared.forms.Campaign.{Campaign}
 use Rattle.script_lines.specs.declared.forms.Form.{Form}
@@ -17,7 +17,7 @@ told_both (form.At time) = At time
 told_both form.End = End
 told_both f = Nobody
 
--- what a form says, by whose it is
+-- what a form says, by its campaign
 abbrev pub told : Whose → Form → Target
 told whose.Both f = told_both f
 told (whose.One x) f = One x f

@@ -1,5 +1,5 @@
--- When a line of two campaigns is refused (this project's profile): the causes in their order, tried after the lines before
--- it. What concerns both stands here; the rest is what refuses it in the campaign whose it is.
+-- When a line of two campaigns is refused (this project's profile): the causes in their order, tried after the lines before it.
+-- What concerns both is here; the rest is what refuses it in its own campaign.
 use Rattle.std.specs.Prelude.{ℕ, ◌+◌, Bool, true, false, ◌&&◌, ◌||◌, not, ◌==◌, nat_lt, nat_le, if◌then◌else◌, List, length, Option, Some, None, is_none}
 use Rattle.wire_base.specs.Numbered.{numbered}
 use Rattle.script_lines.specs.declared.forms.Campaign.{Campaign}
@@ -37,7 +37,7 @@ is_planned section.Group = true
 is_planned section.Device = true
 is_planned here = false
 
--- the plan of a stands before that of b, and both before the devices
+-- the plan of a comes before that of b, and both before the devices
 abbrev pub plan_may_come : (a b : Section) → Option Campaign → Form → Bool
 plan_may_come a b named (form.Device id class hw rows offset key descriptor v1 k11 flash) =
     let device : Form = form.Device id class hw rows offset key descriptor v1 k11 flash in
@@ -69,9 +69,9 @@ abbrev pub is_next : (count : ℕ) → Form → Bool
 is_next count (form.Device id class hw rows offset key descriptor v1 k11 flash) = id == count + 1
 is_next count f = true
 
--- ---- what refuses it in the campaign whose it is
+-- ---- what refuses it in its own campaign
 
--- the payload goes out that way: on the air one to a group does, as its frame
+-- the payload goes this way; on the air only one to a group does, as its frame
 abbrev pub goes_by : Way → SentPayload → Bool
 goes_by way.Downlink sent = true
 goes_by way.Air sent = is_to_group sent.down.to
@@ -119,7 +119,7 @@ common_cause pair pair_form =
     else if not (fits_flash (length pair.a.flash + length pair.b.flash) f) then Some why.Limit
     else None
 
--- and then what refuses it in the campaign whose it is
+-- and then what refuses it in its own campaign
 abbrev pub pair_form_cause : PairState → PairForm → Option LineWhy
 pair_form_cause pair pair_form = first_of (common_cause pair pair_form) (target_cause pair (target_in pair pair_form))
 

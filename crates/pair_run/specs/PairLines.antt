@@ -1,5 +1,5 @@
--- What the lines of a script say to each of its two campaigns (this project's profile), and that each is the campaign that they
--- tell it, as if it had a script of its own.
+-- What the lines of a script say to each of its two campaigns (this project's profile); and each is the campaign of these lines,
+-- as if it had its own script.
 use Rattle.std.specs.Prelude.{◌≡◌, ℕ, List, [], ◌∷◌, Option, Some, None, Ok, Err}
 use Rattle.script_lines.specs.declared.forms.Campaign.{Campaign}
 use Rattle.script_lines.specs.declared.forms.Campaign.TheVariants as campaign
@@ -30,8 +30,8 @@ abbrev pub image_of : Campaign → (image_a image_b : List ℕ) → List ℕ
 image_of campaign.A image_a image_b = image_a
 image_of campaign.B image_a image_b = image_b
 
--- whatever images and accepted script there are: each campaign is the one that its image, and what the lines say to it, define.
--- So what holds of one campaign over its lines holds of each of the two
+-- for any two images and any accepted script, each campaign is the one that its image, and what the lines say to it, define. So
+-- what holds of one campaign over its lines holds of each of the two
 abbrev pub EachReadsItsLines : Type 0
 EachReadsItsLines = (x : Campaign) (image_a image_b : List ℕ) (lines : List (List ℕ)) (pair : PairState)
     → campaigns_of image_a image_b lines ≡ Ok pair

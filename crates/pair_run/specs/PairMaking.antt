@@ -1,5 +1,5 @@
--- What a line that is not refused makes of two campaigns (this project's profile): what it says to each. The one whose it is
--- takes it, and it passes the other by; only a payload that was sent to all reaches a device of the other campaign.
+-- How a line that is not refused changes two campaigns (this project's profile): what it says to each. Its own campaign takes it,
+-- and the other counts it; only a payload that was sent to all reaches a device of the other campaign.
 use Rattle.std.specs.Prelude.{ℕ, if◌then◌else◌, List, [], ◌∷◌, ◌++◌, Option, Some, None}
 use Rattle.wire_base.specs.Numbered.{numbered}
 use Rattle.script_lines.specs.declared.forms.Campaign.{Campaign}
@@ -35,7 +35,7 @@ said_to x pair Nobody = Elsewhere
 abbrev pub behind : Campaign → PairState → Target → WorldState
 behind x pair target = one_line_more (after_said (side pair x) (said_to x pair target))
 
--- a device line tells whose the next device is
+-- a device line says to which campaign the next device belongs
 abbrev pub joined : Campaign → Form → List Owner
 joined x (form.Device id class hw rows offset key descriptor v1 k11 flash) = record { campaign = x; number = id } ∷ []
 joined x f = []

@@ -1,4 +1,4 @@
--- Whose a line is (this project's profile): what it says to which of the two campaigns.
+-- What a line says (this project's profile), and to which of the two campaigns.
 use Rattle.std.specs.Prelude.{ℕ, ◌+◌, if◌then◌else◌, List, Option, Some, None}
 use Rattle.wire_base.specs.Numbered.{numbered}
 use Rattle.script_lines.specs.declared.forms.Campaign.{Campaign}
@@ -26,7 +26,7 @@ pub data Target : Type 0 where
   -- there is no such device
   Nobody : Target
 
--- to the campaign whose the device is, under the number that the device has there
+-- to the campaign of the device, under the device's number there
 abbrev pub to_owner : (Owner → Target) → Option Owner → Target
 to_owner target None = Nobody
 to_owner target (Some owner) = target owner
@@ -41,7 +41,7 @@ carried_target x by number word owner =
     if is_same owner.campaign x then One x (carried_form by number owner.number word)
     else Across x by number owner.number word
 
--- a line that names no campaign: both hear the header, the time and the end, and what names a device is its campaign's
+-- a line that names no campaign: both hear the header, the time and the end; a line for a device is its campaign's
 abbrev pub common_target : List Owner → Form → Target
 common_target owners form.Header = Header
 common_target owners (form.At time) = At time

@@ -14,7 +14,7 @@ abbrev pub report_or_fault : Result PairState LineFault → Result (List ℕ) Li
 report_or_fault (Ok pair) = Ok (pair_report_of pair)
 report_or_fault (Err fault) = Err fault
 
--- what is told of a script, over an image for hardware 1 and one for hardware 1 to 3
+-- what is said of a script, over an image for hardware 1 and one for hardware 1 to 3
 abbrev pub told : (script : List ℕ) → Result (List ℕ) LineFault
 told script = report_or_fault (campaigns_in worked_image ranged_image script)
 
@@ -110,12 +110,12 @@ pub record ArePairsRefused : Type 0 where
   pub fifth_flash : told (codes
       "fuota 2\nimage a 13 0 0\nimage b 26 0 1\ndevice 1 a c 1 0 0 00000000000000000000000000000000 flash\ndevice 2 b c 1 0 0 00000000000000000000000000000000 flash\ndevice 3 a c 1 0 0 00000000000000000000000000000000 flash\ndevice 4 b c 1 0 0 00000000000000000000000000000000 flash\ndevice 5 b c 1 0 0 00000000000000000000000000000000 flash\n")
       ≡ refused 8 why.Limit
-  -- ---- what the campaign itself refuses
+  -- ---- what one campaign refuses
   pub payload : told (two_devices (codes "down b1 2\n")) ≡ refused 6 why.Unsent
   -- each counts its own payloads and uplinks
   pub of_the_other : told (two_devices (codes "ask 1\ndown b1 2\n")) ≡ refused 7 why.Unsent
   pub uplink_of_the_other : told (two_devices (codes "wake 1\nup b1\n")) ≡ refused 7 why.Unsent
-  -- what was sent to one device crosses nowhere, and nothing crosses as a frame without a group
+  -- what was sent to one device goes across nowhere, and nothing goes across as a frame without a group
   pub sent_to_one : told (two_devices (codes "ask 1\ndown a1 2\n")) ≡ refused 7 why.Unsent
   pub no_frame : told (two_devices (codes "frag a\nair a1 2\n")) ≡ refused 7 why.Unsent
   pub time : told (two_devices (codes "at 5\nat 4\n")) ≡ refused 7 why.Time

@@ -1,4 +1,4 @@
-//! When a line of two campaigns is refused: what concerns both.
+//! When a line of two campaigns is refused: the causes that concern both.
 
 ghost use Rattle.std.specs.Prelude.{◌≡◌, ◌<◌, ◌^◌, length};
 ghost use Rattle.pair_run.specs.PairCauses.{is_unplanned, is_planned, plan_may_come, pair_may_come, is_other_group, is_apart, is_next, goes_by};
@@ -10,14 +10,14 @@ use campaign_world::{Section, SentPayload, is_event_or_end, is_in_order};
 use package_grammar::To;
 use script_lines::{Campaign, Form};
 
-/// Whether nothing of the plan came.
+/// Whether no line of the plan came.
 fn is_unplanned(section: Section) -> bool
     ensures { result ≡ is_unplanned section }
 {
     matches!(section, Section::Image)
 }
 
-/// Whether the plan is whole, and no device came.
+/// Whether the plan is complete, and no device came.
 fn is_planned(section: Section) -> bool
     ensures { result ≡ is_planned section }
 {
@@ -45,7 +45,7 @@ fn takes_events(section: Section) -> bool
     matches!(section, Section::Devices | Section::Events)
 }
 
-/// Whether a line may come where the two campaigns stand.
+/// Says whether a line may come where the two campaigns are.
 pub fn pair_may_come(a: Section, b: Section, campaign: Option<Campaign>, form: &Form) -> bool
     ensures { result ≡ pair_may_come a b campaign form.now }
 {
@@ -66,7 +66,7 @@ fn is_other_group(group: Option<PlanGroup>, id: u64, addr: u32) -> bool
     }
 }
 
-/// Whether the second campaign is apart from what the first one plans.
+/// Says whether the second campaign is apart from what the first one plans.
 pub fn is_apart(plan: &Plan, campaign: Option<Campaign>, form: &Form) -> bool
     ensures { result ≡ is_apart plan.now campaign form.now }
 {
@@ -80,7 +80,7 @@ pub fn is_apart(plan: &Plan, campaign: Option<Campaign>, form: &Form) -> bool
     }
 }
 
-/// Whether a device line tells the next ID after so many.
+/// Says whether a device line has the next ID after so many.
 pub fn is_next(count: usize, form: &Form) -> bool
     requires { count < 2 ^ 63 }
     ensures { result ≡ is_next count form.now }
@@ -91,7 +91,7 @@ pub fn is_next(count: usize, form: &Form) -> bool
     }
 }
 
-/// Whether a sent payload goes out this way: on the air one to a group does.
+/// Says whether a sent payload goes this way; on the air only one to a group does.
 pub fn goes_by(way: Way, sent: &SentPayload<'_>) -> bool
     ensures { result ≡ goes_by way sent.now }
 {

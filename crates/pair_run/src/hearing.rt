@@ -20,11 +20,11 @@ impl HearsLine for Pair {
     }
 }
 
-/// Takes a line, and keeps what comes of it: after a refused line no line does more.
+/// Takes a line, and keeps its fault: after a refused line no line does more.
 fn hear(pair: &mut Pair, line: &[u8])
     ensures { HearsPairLine pair.old line.now pair.new }
 {
-    // (what is wrong with a line is kept in the pair)
+    // (the pair keeps the fault of a line)
     let _kept = pair.line(line);
 }
 

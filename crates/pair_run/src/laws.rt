@@ -1,24 +1,24 @@
-//! Laws about the definitions, each the contract of a function that does nothing.
+//! Laws about the definitions, each the contract of a function with an empty body.
 
 ghost use Rattle.pair_run.specs.Counting.{CountersAreUnread};
 ghost use Rattle.pair_run.specs.Crossing.{FramesCrossAsPayloads};
 ghost use Rattle.pair_run.specs.PairLines.{EachReadsItsLines};
 ghost use Rattle.pair_run.specs.WorkedTwo.{ArePairsReported, ArePairsSessions, ArePairsRefused};
 
-/// Whatever two images and accepted script there are: each campaign is the one that its own image, and what the lines say to
-/// it, define. So the laws of one campaign over its lines hold of each.
+/// For any two images and any accepted script, each campaign is the one that its own image, and what the lines say to it, define.
+/// So the laws of one campaign over its lines hold for each.
 #[tactic(auto, using(crate::proofs::ReadAlone::reads_alone))]
 pub fn each_campaign_reads_its_lines()
     ensures { EachReadsItsLines }
 {}
 
-/// A frame for a group that a device does not hear makes of it what the payload makes that it carries.
+/// A frame for a group that a device does not hear does the same to the device as the payload in the frame.
 #[tactic(auto, using(crate::proofs::Frames::frames_cross))]
 pub fn frames_cross_as_payloads()
     ensures { FramesCrossAsPayloads }
 {}
 
-/// Devices that differ in their counters alone go the same way, whatever happens: no counter is ever read.
+/// Devices that differ only in their counters go the same way, whatever happens: no counter is ever read.
 #[tactic(auto, using(crate::proofs::CountsUnread::unread))]
 pub fn counters_are_unread()
     ensures { CountersAreUnread }

@@ -1,8 +1,8 @@
-//! Two campaigns of firmware updates over LoRaWAN at once (TS003 to TS006, 1.0.0), as one script tells them line by line: two
-//! servers, each with its image, session index and group, and the devices of both. `Pair` is two worlds: each line goes to the
-//! campaign whose it is and passes the other by, and what a server sends to all may reach a device of the other campaign. Whose
-//! a line is, and the report of both, are this project's profile. What one campaign makes of a line is left to
-//! `campaign_world`, files and words of a command line to the program above.
+//! Two campaigns of firmware updates over LoRaWAN at once (TS003 to TS006, 1.0.0), as one script describes them line by line: two
+//! servers, each with its image, session index and group, and the devices of both. `Pair` is two worlds. Each line goes to its
+//! own campaign, and the other one only counts it; a payload that a server sends to all may reach a device of the other campaign.
+//! Which campaign a line is for, and the report of both, are this project's profile. What a line does to one campaign is left to
+//! `campaign_world`; files and words of a command line are left to the program above.
 //!
 //!     let mut pair = Pair::new(alloc, image_a, image_b)?;
 //!     for line in lines {

@@ -1,4 +1,4 @@
-//! Whose each device of a script is.
+//! The campaign of each device of a script.
 
 ghost use Rattle.std.specs.Prelude.{◌≡◌, ◌<◌, ◌^◌, length};
 ghost use Rattle.wire_base.specs.Numbered.{numbered};
@@ -13,7 +13,7 @@ pub struct Owner {
     pub number: u64,
 }
 
-/// Whose the device with an ID is, if there is one.
+/// Returns the campaign and number of the device with an ID; None where there is none.
 pub fn owner_of(owners: &[Owner], id: u64) -> Option<Owner>
     requires { length owners.now < 2 ^ 63 }
     ensures { result ≡ numbered owners.now id }
@@ -24,7 +24,7 @@ pub fn owner_of(owners: &[Owner], id: u64) -> Option<Owner>
     Some(owners[id as usize - 1])
 }
 
-/// Whether two campaigns are the same one.
+/// Says whether two campaigns are the same one.
 pub fn is_same(x: Campaign, y: Campaign) -> bool
     ensures { result ≡ is_same x y }
 {

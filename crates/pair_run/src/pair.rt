@@ -1,4 +1,4 @@
-//! Two campaigns as their script tells them, line by line.
+//! Two campaigns as their script describes them, line by line.
 
 ghost use Rattle.std.specs.Prelude.{◌≡◌, ◌<◌, ◌+◌, true, None, Some, Err, IfOk, IfErr, OnErr, OnOk, is_some};
 ghost use Rattle.image_slots.specs.Image.{is_image};
@@ -43,7 +43,7 @@ impl Pair {
     ghost use Rattle.report_lines.specs.Texts.{seen_text};
     ghost use Rattle.pair_run.specs.HeldPair.{PairStands, PairBecomes, PairKeepsEnds, IsPairAnswer, IsPairReport, IsPairEnded, IsFineTarget};
 
-    /// Two campaigns in which nothing happened yet, around their image files.
+    /// Makes two campaigns in which nothing happened yet, around their image files.
     pub fn new(alloc: Global, image_a: &[u8], image_b: &[u8]) -> Result<Self, AllocError>
         requires a { is_image image_a.now ≡ true }
         requires b { is_image image_b.now ≡ true }
@@ -67,9 +67,9 @@ impl Pair {
         }
     }
 
-    /// Takes the next line of the script, without its line feed. After a refused line each later one is answered with that
-    /// fault, and after want of memory with that. All memory that a line needs is taken before a device or a server is
-    /// called, so that all are as they were where it is wanting.
+    /// Takes the next line of the script, without its line feed. After a refused line each later line gets the same fault, and so
+    /// it is after memory was missing. All memory that a line needs is taken before a device or a server is called, so that all
+    /// are unchanged where it is missing.
     pub fn line(&mut self, line: &[u8]) -> Result<(), LineError>
         ensures step { (pair : PairState) → PairStands self.old pair → self.old.kept ≡ None
             → IsPairAnswer pair line.now self.new result }
@@ -100,7 +100,7 @@ impl Pair {
         }
     }
 
-    /// The report of both campaigns, once `end` has come.
+    /// Makes the report of both campaigns, once `end` has come.
     pub fn report(&self, alloc: Global) -> Result<Vec<u8>, LineError>
         ensures report { (pair : PairState) → PairStands self.now pair → self.now.kept ≡ None
             → IsPairReport pair (seen_text result) }
@@ -116,7 +116,7 @@ impl Pair {
         }
     }
 
-    /// That `end` has come, or the fault of the line that is missing.
+    /// Says that `end` has come, or else returns the fault of the line that is missing.
     #[tactic(auto, using(crate::proofs::Sides::ended_begun))]
     pub fn ended(&self) -> Result<(), LineError>
         ensures begun_a { OnOk result (has_begun self.now.a.section ≡ true) }
@@ -135,7 +135,7 @@ impl Pair {
         }
     }
 
-    /// Whether a line was refused, or memory was wanting: then no line does more.
+    /// Says whether a line was refused, or memory was missing: then no line does more.
     pub fn is_over(&self) -> bool
         ensures { result ≡ is_some self.now.kept }
     {

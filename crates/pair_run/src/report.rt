@@ -15,7 +15,7 @@ use campaign_world::World;
 use script_lines::Campaign;
 use std::alloc::{AllocError, Global};
 
-/// The report: what each sends, and where each device stands.
+/// Makes the report: what each server sends, and the state of each device.
 pub fn report(
     alloc: Global,
     a: &World,

@@ -1,4 +1,4 @@
-//! A line that is not refused, at the two worlds: one takes it, or both, and what crosses over.
+//! A line that is not refused, at the two worlds: one takes it, or both do, and what goes across.
 
 ghost use Rattle.std.specs.Prelude.{◌≡◌, ◌<◌, ◌++◌, true, Ok, OnOk, OnErr};
 ghost use Rattle.wire_base.specs.Numbered.{numbered};
@@ -15,7 +15,7 @@ use campaign_world::World;
 use report_lines::LineError;
 use script_lines::{Campaign, Form};
 
-/// Both take a line.
+/// Gives a line to both.
 pub fn take_both(a: &mut World, b: &mut World, form: &Form) -> Result<(), LineError>
     requires quiet { is_quiet form.now ≡ true }
     requires a { IsFine a.old form.now }
@@ -34,7 +34,7 @@ pub fn take_both(a: &mut World, b: &mut World, form: &Form) -> Result<(), LineEr
     }
 }
 
-/// One takes a line, and it passes the other by.
+/// Gives a line to one; the other counts it.
 fn take_one(own: &mut World, other: &mut World, form: &Form) -> Result<(), LineError>
     requires fine { IsFine own.old form.now }
     requires room { own.old.lines < max_lines }
@@ -53,7 +53,7 @@ fn take_one(own: &mut World, other: &mut World, form: &Form) -> Result<(), LineE
     }
 }
 
-/// One takes a line of its own: the device of a device line is the next owner.
+/// Gives one a line of its own; the device of a device line is the next owner.
 pub fn take_own(
     own: &mut World,
     other: &mut World,
@@ -90,7 +90,7 @@ pub fn take_own(
     }
 }
 
-/// A payload of one's server reaches a device of the other.
+/// Takes a payload of one campaign's server to a device of the other.
 pub fn cross(
     from: &mut World,
     to: &mut World,
@@ -115,7 +115,7 @@ pub fn cross(
     }
 }
 
-/// The payload is handed over.
+/// Hands the payload over.
 fn carry(from: &World, to: &mut World, number: u64, device: u64, word: u64) -> Result<(), LineError>
     requires crossing { IsCrossing from.now to.old number device word }
     requires room { to.old.lines < max_lines }

@@ -1,4 +1,4 @@
-//! Whose a line is: what it says to which of the two campaigns.
+//! What a line says, and to which of the two campaigns.
 
 ghost use Rattle.std.specs.Prelude.{◌≡◌, ◌≢◌, ◌<◌, ◌^◌, true, length};
 ghost use Rattle.wire_base.specs.Numbered.{numbered};
@@ -19,12 +19,12 @@ pub enum Way {
     Air,
 }
 
-/// Whose a line is.
+/// Which campaign a line is for.
 #[derive(Clone, Copy)]
 pub enum Whose {
-    /// Of both: the first line, a time or the end.
+    /// Both: the first line, a time or the end.
     Both,
-    /// Of one campaign. A device that it names has the number that it has there.
+    /// One campaign. A device that it names has its number in that campaign.
     One {
         campaign: Campaign,
     },
@@ -36,12 +36,12 @@ pub enum Whose {
         device: u64,
         word: u64,
     },
-    /// Of nobody: there is no such device.
+    /// None: there is no such device.
     Nobody,
 }
 
-/// Whose a line is, after the devices of the one and of the other. A device that it names has then the number that it has in
-/// its campaign: the form is changed where it lies, since it is larger than all else that a line needs.
+/// Returns which campaign a line is for, given the devices of both. A device that it names then has its number in its campaign;
+/// the form is changed in place, since it is larger than all else that a line needs.
 #[tactic(auto, unfolding(crate::specs::Targets::target_of))]
 pub fn whose_of(owners: &[Owner], a: &World, b: &World, pair_form: &mut PairForm) -> Whose
     requires owners { length owners.now < 2 ^ 63 }
@@ -76,7 +76,7 @@ fn whose_in_common(owners: &[Owner], form: &mut Form) -> Whose
     }
 }
 
-/// A line of the campaign whose a device is, which gets the number that it has there.
+/// A line for a device's campaign; the device gets its number there.
 fn owners_line(owners: &[Owner], device: &mut u64) -> Whose
     requires { length owners.now < 2 ^ 63 }
     ensures whose { result ≡ owners_word (numbered owners.now device.old) }
@@ -119,7 +119,7 @@ fn whose_named(owners: &[Owner], world: &World, campaign: Campaign, form: &mut F
     }
 }
 
-/// A payload of a campaign reaches a device, its own or the other's, which gets the number that it has there.
+/// A payload of a campaign reaches a device, its own or the other's; the device gets its number there.
 fn carried(
     owners: &[Owner],
     campaign: Campaign,

@@ -24,7 +24,7 @@ one_bit b c first second =
     let small : bit_xor b c < 2 ^ 1 = xor_lt 1 b c first second in
     omega (arith, bit_at_xor b c 0, small)
 
--- so many states after the one in the lowest 23 bits lie in the bits from 1, 2 and so on
+-- so many states after the one in the lowest 23 bits are in the bits from 1, 2 and so on
 abbrev pub AreAhead : ℕ → ℕ → Type 0
 AreAhead s count = (k : ℕ) → k < count → s / 2 ^ (k + 1) % 2 ^ 23 ≡ prbs23 (s / 2 ^ k % 2 ^ 23)
 

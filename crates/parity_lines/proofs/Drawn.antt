@@ -105,7 +105,7 @@ words_pass n cols left next x found drawn y m column words one is_y is_m is more
   small = h.small;
 }
 
--- once as many columns are found as are wanted, the line is whole
+-- once as many columns are found as are needed, the line is complete
 drawing_done : (n cols left x found drawn : ℕ) (columns : List Bool) → cols / 2 ≤ found → Drawing n cols left x found drawn columns
     → (number_of columns ≡ line n cols) × (drawn ≡ draws n cols)
 drawing_done n cols zero x found drawn columns full h = drawing_ends n cols x found drawn columns h

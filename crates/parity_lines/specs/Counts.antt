@@ -1,4 +1,4 @@
--- What a count of steps is opened from.
+-- What a count of steps is opened with.
 use Rattle.std.specs.Prelude.{◌≡◌, ℕ, ◌<◌}
 
 -- a blank ledger of this name and so many parts may become the ledger of that name and so many

@@ -1,7 +1,7 @@
-//! The parity lines of LoRaWAN's fragmented data block transport (TS004-1.0.0, the parity matrix of its forward error
-//! correction code). For each number of a coded fragment and each number of columns, `line` gives the line of the
-//! definition in words of 64 bits, and draws just as many states of the register as the definition, never more than 25
-//! for each column wanted. What a line is for, the XOR of the pieces at its columns, is left to the crates above.
+//! The parity lines of LoRaWAN's fragmented data block transport (TS004-1.0.0, the parity matrix of its forward error correction
+//! code). For each number of a coded fragment and each number of columns, `line` makes the line of the definition in words of 64
+//! bits. It draws as many states of the register as the definition, at most 25 for each column that the line needs. What a line
+//! is for, the XOR of the pieces at its columns, is left to the crates above.
 //!
 //!     let mut words = [0; 64];                                 // 64 columns a word
 //!     line_uncounted(1, nb_frag, &mut words);                  // coded fragment 1, which is fragment nb_frag + 1

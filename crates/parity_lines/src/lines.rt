@@ -9,19 +9,19 @@ use crate::steps::Steps;
 use frag_model::lines::{MAX_PARITY_INDEX, MAX_PIECES, plain_modulus};
 use std::sync::ledger::Ledger;
 
-/// How many states lie in one number after the one that it begins with.
+/// How many states one number has after the state that it begins with.
 const AHEAD: u16 = 18;
 
-/// The next state of the 23-bit register after `x`: all bits move down by one, and the sum of bit 0 and bit 5 comes in
-/// as bit 22 (TS004-1.0.0). A state is below 2^23.
+/// Returns the next state of the 23-bit register after `x` (PRBS23, TS004-1.0.0): all bits move down by one, and the sum of bit 0
+/// and bit 5 comes in as bit 22. A state is below 2^23.
 pub fn prbs23(x: u32) -> u32
     ensures { result ≡ prbs23 x }
 {
     (x >> 1) + (((x & 1) ^ (x >> 5 & 1)) << 22)
 }
 
-/// The next 18 states after `x`, in one number: a state is 23 of its bits, which begin one bit above those of the state
-/// before.
+/// The next 18 states after `x`, in one number: a state is 23 of its bits, which begin one bit above those of the state before
+/// it.
 fn ahead(x: u64) -> u64
     requires state { x < 2 ^ 23 }
     ensures first { result % 2 ^ 23 ≡ x }
@@ -31,9 +31,9 @@ fn ahead(x: u64) -> u64
     x + ((x ^ x >> 5) << 23)
 }
 
-/// Draws the line of coded fragment `n` over `cols` columns (TS004-1.0.0), one step for each state drawn. `n` is 1 to
-/// 8,380 and `cols` 1 to 4,096. `out` has a bit for each column at least, (cols + 63) / 64 words. Column c is bit c %
-/// 64 of word c / 64; every other bit of `out` becomes 0.
+/// Draws the line of coded fragment `n` over `cols` columns (TS004-1.0.0), and counts one step for each state drawn. `n` is 1 to
+/// 8,380 and `cols` 1 to 4,096. `out` has at least a bit for each column, (cols + 63) / 64 words. Column c is bit c % 64 of word
+/// c / 64; every other bit of `out` becomes 0. It takes no memory.
 pub fn line<L: Ledger>(n: u16, cols: u16, out: &mut [u64], steps: &mut Steps<L>)
     requires first { 1 ≤ n }
     requires last { n ≤ MAX_PARITY_INDEX }

@@ -1,9 +1,9 @@
-//! What the register's states leave when they are divided, without a division for each.
+//! The remainders of the register's states, without a division for each.
 
 ghost use Rattle.std.specs.Prelude.{◌≡◌, ◌+◌, ◌/◌, ◌%◌, ◌^◌, ◌<◌, ◌≤◌};
 ghost use Rattle.frag_model.specs.Limits.{max_pieces};
 
-/// A little more than 2^36 over the modulus.
+/// Returns a little more than 2^36 over the modulus.
 pub fn reciprocal_of(modulus: u16) -> u64
     requires some { 0 < modulus }
     requires most { modulus ≤ max_pieces + 1 }
@@ -12,7 +12,7 @@ pub fn reciprocal_of(modulus: u16) -> u64
     (1 << 36) / modulus as u64 + 1
 }
 
-/// What `x` leaves. A state has 23 bits and a modulus 13, so that 36 bits of the reciprocal give the whole quotient.
+/// Returns the remainder of `x`. A state has 23 bits and a modulus 13, so 36 bits of the reciprocal give the whole quotient.
 #[tactic(auto, using(crate::proofs::Reciprocal::quotient))]
 pub fn residue(x: u32, modulus: u16, reciprocal: u64) -> u16
     requires state { x < 2 ^ 23 }

@@ -1,4 +1,4 @@
-//! A count of steps that exists in contracts alone.
+//! A count of steps that exists only in contracts.
 
 ghost use Rattle.std.specs.Prelude.{◌≡◌, ℕ, ◌+◌, ◌<◌};
 ghost use Rattle.parity_lines.specs.Counts.{IsBlankOf};
@@ -22,7 +22,7 @@ impl<L: Ledger> Model for Steps<L> {
 }
 
 impl<L: Ledger> Steps<L> {
-    /// A count of no steps yet, of the ledger that the blank one becomes.
+    /// Makes a count of no steps yet, of the ledger that the blank one becomes.
     pub fn new(blank: Blank) -> Steps<L>
         requires { IsBlankOf L.name L.parts blank.name blank.parts }
         ensures { result ≡ 0 }
@@ -31,14 +31,14 @@ impl<L: Ledger> Steps<L> {
         Steps { book, share }
     }
 
-    /// One step more. It has no code.
+    /// Counts one step more. It has no code.
     pub fn tick(&mut self)
         ensures { self.new ≡ self.old + 1 }
     {
         self.book.add(&mut self.share, 1);
     }
 
-    /// So many steps more. It has no code.
+    /// Counts so many steps more. It has no code.
     pub fn add(&mut self, count: usize)
         ensures { self.new ≡ self.old + count }
     {

@@ -1,4 +1,4 @@
-//! Lines for a caller that counts nothing.
+//! Lines for callers that count nothing.
 
 ghost use Rattle.std.specs.Prelude.{◌*◌, ◌≤◌, length};
 ghost use Rattle.parity_lines.specs.Counts.{IsBlankOf};
@@ -10,7 +10,7 @@ use frag_model::lines::{MAX_PARITY_INDEX, MAX_PIECES};
 use std::marker::Brand;
 use std::sync::ledger::{Blank, Ledger};
 
-/// As `line`, with nothing counted.
+/// Draws a line, as `line` does, with nothing counted.
 pub fn line_uncounted(n: u16, cols: u16, out: &mut [u64])
     requires first { 1 ≤ n }
     requires last { n ≤ MAX_PARITY_INDEX }

@@ -73,7 +73,7 @@ captured_refused old before after line e =
     headed_refused (codes "capture") line_entry Catches (λ rows. first_caught rows) CaughtStands old before after line e
     (reads_cut line_entry entry_beyond)
 
--- after a refused line, or want of memory
+-- after a refused line, or missing memory
 pub captured_kept : (old : HeldHeaded HeldCaught) (line : List ℕ) (e : LineError) → old.kept ≡ Some e → HearsCaptured old line old
 captured_kept = headed_kept (codes "capture") line_entry Catches (λ rows. first_caught rows) CaughtStands
 
@@ -112,7 +112,7 @@ captured_nothing held file none nothing stands = (
   refl,
 )
 
--- a line was refused, or memory was wanting
+-- a line was refused, or memory was missing
 pub captured_error : (held : HeldHeaded HeldCaught) (file : List ℕ) (e : LineError) → held.kept ≡ Some e
     → CapturingStands held (lines_of file) → IsFileText Captures file (Err e)
 unfolding Captures

@@ -103,7 +103,7 @@ unfolding TakesFile
 file_by keyword reading Takes first header rest rows outcome is behind =
     subst (λ (r : Result ℕ LineWhy). TakesBehind reading Takes first r rest outcome) (sym is) behind
 
--- after the header alone there is the first state
+-- after only the header there is the first state
 file_first : {P S : Type 0} (keyword : List ℕ) (reading : LineReading P) (Takes : Step P S) (first : ℕ → S) (header : List ℕ) (rows : ℕ)
     → rows_of keyword header ≡ Ok rows → TakesFile keyword reading Takes first (header ∷ []) (Ok (first rows))
 unfolding TakesLines
@@ -196,7 +196,7 @@ headed_refused {P} {S} {H} keyword reading Takes first Stands old before after l
     )
 headed_refused keyword reading Takes first Stands old before after line error.Memory reads none some refused lines whole same stands = tt
 
--- after a refused line, or want of memory
+-- after a refused line, or missing memory
 pub headed_kept : {P S H : Type 0} (keyword : List ℕ) (reading : LineReading P) (Takes : Step P S) (first : ℕ → S) (Stands : H → S → Type 0)
     (old : HeldHeaded H) (line : List ℕ) (e : LineError) → old.kept ≡ Some e
     → GoesBehind (HeadedStands (TakesFile keyword reading Takes first) Stands) old line old

@@ -67,7 +67,7 @@ decoded_refused old text line (error.Line fault) none refused port direction lin
 decoded_refused old text line error.Memory none refused port direction lines whole same stands =
     record { port_is = stands.port_is; direction_is = stands.direction_is; behind = tt }
 
--- after a refused line, or want of memory
+-- after a refused line, or missing memory
 pub decoded_kept : (old : HeldDecoding) (line : List ℕ) (e : LineError) → old.kept ≡ Some e → HearsDecoded old line old
 decoded_kept old line e kept port direction lines whole same stands =
     record {

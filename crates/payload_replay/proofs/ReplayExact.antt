@@ -36,7 +36,7 @@ use Rattle.report_lines.specs.Lines.{BehindLine, TakesLines}
 use Rattle.payload_replay.specs.Replay.{replay_device, captured, after_payload, Hears}
 use Rattle.payload_replay.specs.Carried.{CarriedCommand, carried, carried_by, carried_in, carried_after, after_command, session_behind}
 
--- ---- four sessions, each as it is told
+-- ---- four sessions, each as it is shown
 
 -- what a session of an index is
 abbrev Told : Type 0
@@ -45,7 +45,7 @@ Told = ℕ → Option Session
 abbrev Are : Told → SessionTable → Type 0
 Are told all = OfEach (λ index s. s ≡ told index) all
 
--- told otherwise, and the same
+-- said in another way, and the same
 as_well : (told other : Told) (all : SessionTable) → ((index : ℕ) → told index ≡ other index) → Are told all → Are other all
 as_well told other all same h = (h.0 ∙ same 0, h.1 ∙ same 1, h.2 ∙ same 2, h.3 ∙ same 3)
 

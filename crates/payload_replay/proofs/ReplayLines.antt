@@ -70,7 +70,7 @@ pub replayed_refused : (old : HeldHeaded (HeldDevice Cells)) (before : HeldDevic
 replayed_refused old before after line e =
     headed_refused (codes "replay") payload_of Hears (λ rows. replay_device rows) DeviceStands old before after line e payload_cut
 
--- after a refused line, or want of memory
+-- after a refused line, or missing memory
 pub replayed_kept : (old : HeldHeaded (HeldDevice Cells)) (line : List ℕ) (e : LineError) → old.kept ≡ Some e → HearsReplayed old line old
 replayed_kept = headed_kept (codes "replay") payload_of Hears (λ rows. replay_device rows) DeviceStands
 
@@ -101,7 +101,7 @@ replayed_nothing held file none nothing stands = (
   refl,
 )
 
--- a line was refused, or memory was wanting
+-- a line was refused, or memory was missing
 pub replayed_error : (held : HeldHeaded (HeldDevice Cells)) (file : List ℕ) (e : LineError) → held.kept ≡ Some e
     → ReplayingStands held (lines_of file) → IsFileText Replays file (Err e)
 unfolding Replays

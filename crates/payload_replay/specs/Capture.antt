@@ -1,5 +1,5 @@
--- What `capture` tells of a file of JSON lines: each payload in words, and then where the sessions of a device stand
--- that hears those that go down on port 201. (TS004-1.0.0 on port 201; the rest is this project's profile.)
+-- The text of `capture` for a file of JSON lines: each payload in words, and then the sessions of a device that hears those that
+-- go down on port 201. (TS004-1.0.0 on port 201; the rest is this project's profile.)
 use Rattle.std.specs.Prelude.{◌≡◌, ℕ, Bool, true, false, ◌&&◌, ◌==◌, if◌then◌else◌, List, [], ◌++◌, codes, Result, Ok, Err}
 use Rattle.std.specs.Fmt.{decimal}
 use Rattle.wire_base.specs.declared.refusal.Direction.{Direction}
@@ -65,7 +65,7 @@ pub record Caught : Type 0 where
   pub text : List ℕ
   pub device : DeviceState
 
--- what the entry of the line with a number makes of the device; the number is its mark
+-- how the entry of the line with a number changes the device; the number is its mark
 unfoldable pub after_entry : (number : ℕ) → Entry → DeviceState → DeviceState
 after_entry number item device = if is_heard item then after_payload number item.payload device else device
 
@@ -85,22 +85,22 @@ first_caught rows = record { text = []; device = replay_device rows }
 abbrev pub CatchesAll : List (List ℕ) → Result Caught LineFault → Type 0
 CatchesAll lines outcome = TakesFile (codes "capture") line_entry Catches (λ rows. first_caught rows) lines outcome
 
--- ---- what is told of it
+-- ---- the text
 
 -- from the counts on it is the text of a replay
 unfoldable pub capture_text : Caught → List ℕ
 capture_text all = codes "fuota capture 1\n" ++ (all.text ++ closing_text all.device)
 
--- what is told of a file: the text, or the first refused line
+-- the answer for a file: the text, or the first refused line
 unfoldable pub Captures : List ℕ → Result (List ℕ) LineFault → Type 0
 Captures file answer =
     (outcome : Result Caught LineFault) × CatchesAll (lines_of file) outcome
     × (answer ≡ text_at_end (λ all. capture_text all) outcome)
 
--- no file is told in two ways
+-- no file has two answers
 abbrev pub CapturesOnce : Type 0
 CapturesOnce = HasOneText Captures
 
--- and each in one
+-- and each has one
 abbrev pub CapturesAlways : Type 0
 CapturesAlways = HasAText Captures

@@ -1,4 +1,4 @@
--- A capture whose payloads all go down on port 201 is told as the replay of them, from the counts on.
+-- The text of a capture whose payloads all go down on port 201 is that of the replay of them, from the counts on.
 use Rattle.std.specs.Prelude.{◌≡◌, ℕ, ◌+◌, List, [], ◌∷◌, ◌++◌, codes, Ok}
 use Rattle.hex.specs.Hex.{decode_of}
 use Rattle.wire_base.specs.declared.refusal.Direction.TheVariants.{Down}
@@ -23,7 +23,7 @@ AreHexOf [] [] [] = Unit {0}
 AreHexOf (item ∷ items) (line ∷ lines) (digits ∷ more) = IsHexOf item line digits × AreHexOf items lines more
 AreHexOf items lines digits = ⊥
 
--- a file of payloads in hex beside a capture of the same ones, all of which go down on port 201
+-- a file of payloads in hex and a capture of the same ones, all of which go down on port 201
 pub record IsReplayOf (capture replay : List ℕ) (items : List Entry) : Type 0 where
   pub header : List ℕ
   pub lines : List (List ℕ)
@@ -36,13 +36,12 @@ pub record IsReplayOf (capture replay : List ℕ) (items : List Entry) : Type 0 
   pub replay_rows : rows_of (codes "replay") replay_header ≡ Ok rows
   pub hex : AreHexOf items lines hex_lines
 
--- the texts of entries, of which the first stands on the line after so many
+-- the texts of entries, the first of which is on the line after so many
 abbrev pub entries_text : (lines : ℕ) → List Entry → List ℕ
 entries_text lines [] = []
 entries_text lines (item ∷ items) = entry_text (lines + 1) item ++ entries_text (lines + 1) items
 
--- whatever the capture is told to be: its entries one after another, and then what the replay is told to be from the
--- counts on
+-- whatever text the capture has: its entries one after another, and then the text of the replay from the counts on
 abbrev pub EndsAsReplay : Type 0
 EndsAsReplay = (capture replay text : List ℕ) (items : List Entry) → IsReplayOf capture replay items
     → Captures capture (Ok text) → (device : DeviceState)

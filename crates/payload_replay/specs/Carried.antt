@@ -1,4 +1,4 @@
--- What the commands that captured lines carry make of a session, one after another. (TS004-1.0.0, FragSessionSetupReq,
+-- What the commands in captured lines make of a session, one after another. (TS004-1.0.0, FragSessionSetupReq,
 -- FragSessionDeleteReq and DataFragment.)
 use Rattle.std.specs.Prelude.{ℕ, ◌+◌, Bool, true, not, ◌==◌, nat_lt, if◌then◌else◌, List, [], ◌∷◌, ◌++◌, map, Option, None, Result, Ok, Err}
 use Rattle.wire_base.specs.declared.refusal.Direction.TheVariants.{Down}
@@ -15,9 +15,9 @@ use Rattle.device_core.specs.Step.{weights}
 use Rattle.report_lines.specs.declared.faults.LineWhy.{LineWhy}
 use Rattle.payload_replay.specs.PayloadLines.{payload_of}
 
--- ---- what the lines carry
+-- ---- the commands in the lines
 
--- a command, and the number of the line that carries it
+-- a command, and the number of its line
 pub record CarriedCommand : Type 0 where
   pub line : ℕ
   pub command : Command

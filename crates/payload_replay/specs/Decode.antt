@@ -1,4 +1,4 @@
--- What `decode` says of a file of payloads, one a line. (This project's profile.)
+-- The text of `decode` for a file of payloads, one a line. (This project's profile.)
 use Rattle.std.specs.Prelude.{◌≡◌, ℕ, List, [], ◌∷◌, ◌++◌, codes, Result, Ok, Err}
 use Rattle.std.specs.Fmt.{decimal}
 use Rattle.wire_base.specs.declared.refusal.Direction.{Direction}
@@ -45,7 +45,7 @@ numbered_text n shown = codes "line " ++ (decimal n ++ (codes "\n" ++ shown))
 abbrev pub Writes : ℕ → Direction → ℕ → List ℕ → List ℕ → List ℕ → Type 0
 Writes port direction n payload text next = next ≡ text ++ numbered_text n (payload_text (reading_of port direction payload))
 
--- what is told of a file: the whole text, or the first refused line
+-- the answer for a file: the whole text, or the first refused line
 unfoldable pub Decodes : ℕ → Direction → List ℕ → Result (List ℕ) LineFault → Type 0
 Decodes port direction file answer =
     (outcome : Result (List ℕ) LineFault) × TakesLines payload_of (Writes port direction) 0 [] (lines_of file) outcome

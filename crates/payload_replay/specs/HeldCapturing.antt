@@ -1,4 +1,4 @@
--- What a capture holds that is heard line by line, and after which lines it stands.
+-- What a capture holds while it is heard line by line, and after which lines it stands.
 use Rattle.std.specs.Prelude.{◌≡◌, ℕ, List, ◌++◌, codes}
 use Rattle.flash_session.specs.Flashes.{Cells}
 use Rattle.device_core.specs.HeldDevice.{HeldDevice, DeviceStands}
@@ -16,7 +16,7 @@ pub record CaughtStands (held : HeldCaught) (all : Caught) : Type 0 where
   pub text : held.text ≡ codes "fuota capture 1\n" ++ all.text
   pub device : DeviceStands held.device all.device
 
--- whatever it stood for, it stands for what a step makes of that
+-- for anything it stood for, it stands for what a step makes of that
 abbrev pub CaughtBecomes : (old new : HeldCaught) → (step : Caught → Caught) → Type 0
 CaughtBecomes old new step = (all : Caught) → CaughtStands old all → CaughtStands new (step all)
 

@@ -16,7 +16,7 @@ pub record HeldDecoding : Type 0 where
   pub text : List ℕ
   pub kept : Option LineError
 
--- the lines made the text, or one of them is the first that is refused, or memory was wanting
+-- the lines made the text, or one of them is the first that is refused, or memory was missing
 abbrev pub IsDecodedBy : HeldDecoding → List (List ℕ) → Option LineError → Type 0
 IsDecodedBy held lines None = (held.lines ≡ length lines) × TakesLines payload_of (Writes held.port held.direction) 0 [] lines (Ok held.text)
 IsDecodedBy held lines (Some (error.Line fault)) = TakesLines payload_of (Writes held.port held.direction) 0 [] lines (Err fault)

@@ -19,7 +19,7 @@ HoldsReached Leads Stands count lines None = lines ≡ []
 HoldsReached {S} Leads Stands count lines (Some held) =
     (count ≡ length lines) × ((state : S) × Leads lines (Ok state) × Stands held state)
 
--- the lines lead there, or one of them is the first that is refused, or memory was wanting
+-- the lines lead there, or one of them is the first that is refused, or memory was missing
 abbrev pub IsHeardBy : {S H : Type 0} → (Leads : List (List ℕ) → Result S LineFault → Type 0)
     → (Stands : H → S → Type 0) → HeldHeaded H → List (List ℕ) → Option LineError → Type 0
 IsHeardBy Leads Stands held lines None = HoldsReached Leads Stands held.lines lines held.state
@@ -31,7 +31,7 @@ abbrev pub HeadedStands : {S H : Type 0} → (Leads : List (List ℕ) → Result
     → (Stands : H → S → Type 0) → HeldHeaded H → List (List ℕ) → Type 0
 HeadedStands Leads Stands held lines = IsHeardBy Leads Stands held lines held.kept
 
--- what the header makes: what stands for the first state over its rows, or it is refused, or memory was wanting
+-- what the header makes: what stands for the first state over its rows, or it is refused, or memory was missing
 abbrev pub IsBegun : {S H : Type 0} → (keyword : List ℕ) → (first : ℕ → S) → (Stands : H → S → Type 0)
     → (header : List ℕ) → Result H LineError → Type 0
 IsBegun keyword first Stands header (Ok held) =

@@ -1,5 +1,5 @@
--- What `replay` tells of a file of captured payloads: a device hears them, and then says where its sessions stand.
--- (TS004-1.0.0 on port 201, down, by unicast; the rest is this project's profile.)
+-- The text of `replay` for a file of captured payloads: a device hears them, and then the text shows its sessions. (TS004-1.0.0
+-- on port 201, down, by unicast; the rest is this project's profile.)
 use Rattle.std.specs.Prelude.{false, ◌≡◌, ℕ, List, [], ◌++◌, replicate, codes, None, Result}
 use Rattle.cast_wire.specs.Limits.{max_groups}
 use Rattle.package_grammar.specs.declared.downlink.Downlink.{Downlink}
@@ -25,7 +25,7 @@ header_rows line = rows_of (codes "replay") line
 
 -- ---- what the device hears
 
--- the device of a replay: class C, hardware version 0 and a clock that is right, which knows both image formats, with 4 sessions and an area for the largest file
+-- the device of a replay: class C, hardware version 0, a clock that is right, both image formats, 4 sessions, the largest area
 abbrev pub replay_device : ℕ → DeviceState
 replay_device rows = first_device (record {
   class = class.C;
@@ -47,7 +47,7 @@ replay_device rows = first_device (record {
 abbrev pub captured : List ℕ → Downlink
 captured payload = record { to = Unicast; port = 201; payload = payload }
 
--- what a payload makes of the device, at moment 0 and with random word 0; its uplinks are thrown away, and the mark is the line's number
+-- what a payload makes of the device, at moment 0 with random word 0; its uplinks are dropped, and the mark is the line's number
 unfoldable pub after_payload : ℕ → List ℕ → DeviceState → DeviceState
 after_payload n payload device = after_event device (Receives 0 0 n (captured payload))
 
@@ -61,7 +61,7 @@ ReachesBehind rows lines outcome = TakesBehind payload_of Hears (λ rows. replay
 abbrev pub Reaches : List (List ℕ) → Result DeviceState LineFault → Type 0
 Reaches lines outcome = TakesFile (codes "replay") payload_of Hears (λ rows. replay_device rows) lines outcome
 
--- ---- what is told of it
+-- ---- the text
 
 -- from the counts on: the counts, the sessions and the last line
 abbrev pub closing_text : DeviceState → List ℕ
@@ -71,7 +71,7 @@ closing_text device = counts_line device.counts ++ (session_lines whole device.s
 unfoldable pub replay_text : DeviceState → List ℕ
 replay_text device = codes "fuota replay 1\n" ++ closing_text device
 
--- what is told of a file: the text, or the first refused line
+-- the answer for a file: the text, or the first refused line
 unfoldable pub Replays : List ℕ → Result (List ℕ) LineFault → Type 0
 Replays file answer = (outcome : Result DeviceState LineFault) × Reaches (lines_of file) outcome × (answer ≡ text_at_end (λ device. replay_text device) outcome)
 

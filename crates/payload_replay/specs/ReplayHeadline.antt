@@ -31,7 +31,7 @@ pub record IsReplayed (file : List ℕ) (device : DeviceState) (index : ℕ) (s 
   pub index_is : index < 4
   pub session_is : session_at device.sessions index ≡ Some s
 
--- line n carries this command among those of its payload
+-- line n has this command among those of its payload
 pub record IsCarried (lines : List (List ℕ)) (n : ℕ) (c : Command) (line payload : List ℕ) (cs : List Command) : Type 0 where
   pub line_is : numbered lines n ≡ Some line
   pub payload_is : payload_of (n - 1) line ≡ Ok payload
@@ -46,7 +46,7 @@ pub record IsFileOf (file header : List ℕ) (rows : ℕ) (payloads : List (List
   pub lines_are : lines_of file ≡ header ∷ payloads
   pub rows_are : header_rows header ≡ Ok rows
 
--- the lines carry this fragment for the session of an index, after some commands and before others, of which none sets up or
+-- the lines have this fragment for the session of an index, after some commands and before others, none of which sets up or
 -- deletes a session of that index
 pub record IsSince (payloads : List (List ℕ)) (index : ℕ) (f : Fragment) (before behind : List CarriedCommand) : Type 0 where
   pub there : carried_after 1 payloads ≡ before ++ carried f.mark (Cast (DataFragment index f.number f.part)) ∷ behind
@@ -65,7 +65,7 @@ complete_lines index s line file =
 
 -- what the text says of the session
 pub record IsToldOf (device : DeviceState) (index : ℕ) (s : Session) : Type 0 where
-  -- where some fragment is the first after which one file alone fits: its line, and that file
+  -- where some fragment is the first after which only one file fits: its line, and that file
   pub complete : (line : ℕ) (file : List ℕ) → FirstAt (shape_of s) s.setup.padding (IsWhole (shape_of s) s.setup.padding file) s.heard line
       → replay_text device ≡ text_saying device index (complete_lines index s line file)
   -- where one is the first after which independent coded fragments exceed the rows: its line
@@ -78,16 +78,16 @@ pub record IsToldOf (device : DeviceState) (index : ℕ) (s : Session) : Type 0 
   pub receiving : AfterEach (IsOpen (shape_of s) s.setup.padding) s.heard
       → replay_text device ≡ text_saying device index (saying index s (codes "receiving"))
 
--- whatever payloads are handed in
+-- for any payloads
 pub record ReplayHeadline : Type 0 where
-  -- a session hears nothing but what the lines carry, each fragment at its line
+  -- a session hears nothing but what the lines have, each fragment at its line
   pub heard : (file : List ℕ) (device : DeviceState) (index : ℕ) (s : Session) → IsReplayed file device index s
       → CameInTurn (Carries (lines_of file)) index (length (lines_of file)) s.heard
-  -- and exactly what they carry: what is at an index is what their commands make of it, one after another
+  -- and exactly what they have: what is at an index is what their commands make of it, one after another
   pub exact : (file header : List ℕ) (rows : ℕ) (payloads : List (List ℕ)) (device : DeviceState) (index : ℕ)
       → Reaches (lines_of file) (Ok device) → IsFileOf file header rows payloads → index < 4
       → session_at device.sessions index ≡ session_behind (replay_device rows).config index None (carried_after 1 payloads)
-  -- so a session hears each fragment that the lines carry for it since it was set up, but for those that it has cause to drop
+  -- so a session hears each fragment that the lines have for it since it was set up, except for those that it has cause to drop
   pub all : (file header : List ℕ) (rows : ℕ) (payloads : List (List ℕ)) (device : DeviceState) (index : ℕ) (s : Session)
       (f : Fragment) (before behind : List CarriedCommand) → IsReplayed file device index s → IsFileOf file header rows payloads
       → IsSince payloads index f before behind → cause_of s.setup Unicast f.number f.part ≡ None → In f s.heard

@@ -1,4 +1,4 @@
--- Texts worked out: what is decoded of a payload, what a replay tells of two sessions, and what a capture tells.
+-- Texts worked out: what is decoded of a payload, a replay of two sessions, and a capture.
 use Rattle.std.specs.Prelude.{◌≡◌, ℕ, pos, true, false, [], ◌∷◌, ◌++◌, replicate, codes, None, Some, Ok, Err}
 use Rattle.wire_base.specs.declared.refusal.Direction.{Direction}
 use Rattle.wire_base.specs.declared.refusal.Direction.TheVariants.{Down, Up}

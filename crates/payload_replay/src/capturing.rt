@@ -1,4 +1,4 @@
-//! What `capture` tells of a file of JSON lines: what each says, and where a device stands that hears those for it.
+//! The text of `capture` for a file of JSON lines: what each says, and the state of a device that hears those for it.
 
 ghost use Rattle.std.specs.Prelude.{◌≡◌, ◌+◌, ◌<◌, ◌≤◌, [], ◌++◌, List, ℕ, IsTrue, is_some, None, Ok, IfOk, IfErr, OnOk, codes, string_bytes};
 ghost use Rattle.script_lines.specs.Lines.{lines_of};
@@ -24,17 +24,16 @@ use std::alloc::{AllocError, Global};
 use std::marker::Model;
 use wire_base::Direction;
 
-/// The bytes that the head of the longest line has room in.
+/// The bytes that the head of the longest line fits.
 const HEAD_ROOM: usize = 32;
 
-/// A capture, as the lines of its file are heard: what each object's payload says, and a class C device with 4
-/// sessions of at most 262,382 bytes that hears those with port 201 and direction `down`, by unicast at moment 0 ms.
+/// A capture while the lines of its file are heard: what each object's payload says, and a class C device with 4 sessions of at
+/// most 262,382 bytes that hears those with port 201 and direction `down`, by unicast at moment 0 ms.
 ///
-/// The first line of the file is `capture 1 ROWS`, with ROWS (decimal, 0 to 256) the coded fragments that a session
-/// holds. Lines 2 to 20,000, each of at most 600 bytes, are JSON objects (RFC 8259) with `port` (0 to 255), `dir`
-/// (`down` or `up`) and `hex`, the digits of a payload of 0 to 242 bytes in the order sent. After the first line
-/// that is refused, and after want of memory, no line does more. (TS004-1.0.0; the file and the text are this
-/// project's profile.)
+/// The first line of the file is `capture 1 ROWS`; ROWS (decimal, 0 to 256) is the number of coded fragments that a session
+/// holds. Lines 2 to 20,000, each of at most 600 bytes, are JSON objects (RFC 8259) with `port` (0 to 255), `dir` (`down` or
+/// `up`) and `hex`, the digits of a payload of 0 to 242 bytes in the order sent. After the first line that is refused, and after
+/// memory was missing, no line does more. (TS004-1.0.0; the file and the text are this project's profile.)
 #[derive(Drop)]
 pub struct Capturing {
     alloc: Global,
@@ -43,7 +42,7 @@ pub struct Capturing {
     kept: Option<LineError>,
 }
 
-/// The text so far, its first line included, and the device; and the room that each line is read in.
+/// The text so far, its first line included, the device, and the room in which each line is read.
 #[derive(Drop)]
 struct Catch {
     text: Vec<u8>,
@@ -86,7 +85,7 @@ impl HearsLine for Capturing {
 }
 
 impl Capturing {
-    /// After no line.
+    /// Makes a capture before its first line.
     pub fn new(alloc: Global) -> Self
         ensures { CapturingStands result [] }
     {
@@ -98,7 +97,7 @@ impl Capturing {
         }
     }
 
-    /// Hears a line, and keeps what comes of it.
+    /// Hears a line, and keeps its text or its fault.
     fn hear(&mut self, line: &[u8])
         ensures { HearsCaptured self.old line.now self.new }
     {
@@ -114,7 +113,7 @@ impl Capturing {
         }
     }
 
-    /// Whether a line was refused, or memory was wanting.
+    /// Says whether a line was refused, or memory was missing.
     fn is_kept(&self) -> bool
         ensures kept { result ≡ is_some self.now.kept }
         ensures stays { IsTrue result → (line : List ℕ) → HearsCaptured self.now line self.now }
@@ -137,13 +136,13 @@ impl Capturing {
         }
     }
 
-    /// The text of a file, after all its lines: of each object its line's number, counted from 1, its port and
+    /// Returns the text of a file, after all its lines: for each object its line's number, counted from 1, its port and
     /// direction, and what its payload says; then, as in a replay, the counts of the device and its sessions.
     ///
-    /// `LineError::Line` names the first line that is refused and its first cause: `LineWhy::Limit` where the number
-    /// of lines or of a line's bytes is exceeded; then `LineWhy::Syntax` where a line is no such object, or the first
-    /// no such header; `LineWhy::Range` where a port or ROWS is out of its range; and `LineWhy::Limit` where a
-    /// payload is too long. An empty file is refused at line 1. `LineError::Memory` comes where memory is wanting.
+    /// `LineError::Line` names the first line that is refused and its first cause: `LineWhy::Limit` where the number of lines or
+    /// of a line's bytes is exceeded; then `LineWhy::Syntax` where a line is no such object, or the first no such header;
+    /// `LineWhy::Range` where a port or ROWS is out of its range; and `LineWhy::Limit` where a payload is too long. An empty file
+    /// is refused at line 1. `LineError::Memory` comes where memory is missing.
     pub fn text(self) -> Result<Vec<u8>, LineError>
         ensures { (file : List ℕ) → CapturingStands self (lines_of file)
             → IsFileText Captures file (seen_text result) }
@@ -199,7 +198,7 @@ fn first_text(alloc: Global) -> Result<(Vec<u8>, Box<Scratch>), AllocError>
     }
 }
 
-/// What the entry of a line that comes after so many makes of the text and the device; or the line is refused.
+/// Adds the entry of a line that comes after so many to the text and the device; or the line is refused.
 fn catch_line(alloc: Global, caught: &mut Catch, lines: u32, line: &[u8]) -> Result<(), LineError>
     requires { lines ≤ 20000 }
     ensures caught { OnOk result ((item : Entry) × (line_entry lines line.now ≡ Ok item)
@@ -292,7 +291,7 @@ fn direction_word(dir: Direction) -> &'static str
     }
 }
 
-/// The device hears an entry that is for it, and stays as it is at another.
+/// The device hears an entry that is for it; any other leaves it unchanged.
 #[tactic(auto, unfolding(crate::specs::Capture::after_entry))]
 fn hear_entry(device: &mut Device<CellFlash>, item: &Entry, mark: u64)
     ensures { Becomes device.old device.new (λ before. after_entry mark item.now before) }
@@ -302,7 +301,7 @@ fn hear_entry(device: &mut Device<CellFlash>, item: &Entry, mark: u64)
     }
 }
 
-/// An entry is for the device: it goes down on the port of TS004.
+/// Whether an entry is for the device: it goes down on the port of TS004.
 fn is_heard(item: &Entry) -> bool
     ensures { result ≡ is_heard item.now }
 {
@@ -312,7 +311,7 @@ fn is_heard(item: &Entry) -> bool
     }
 }
 
-/// The text over what was caught.
+/// The whole text of what was caught.
 fn told(alloc: Global, caught: Catch) -> Result<Vec<u8>, LineError>
     ensures text { (all : Caught) → CaughtStands caught all
         → IfOk result (λ text. text.items ≡ capture_text all) }

@@ -1,4 +1,4 @@
-//! What `decode` says of a file of payloads, one a line.
+//! The text of `decode` for a file of payloads, one a line.
 
 ghost use Rattle.std.specs.Prelude.{◌≡◌, ℕ, ◌+◌, ◌<◌, ◌≤◌, [], List, ◌++◌, codes, string_bytes, IsTrue, is_some, Ok, IfOk, IfErr, OnOk};
 ghost use Rattle.std.specs.Fmt.{decimal};
@@ -18,13 +18,12 @@ use std::alloc::{AllocError, Global};
 use std::marker::Model;
 use wire_base::{Direction, Why};
 
-/// The text of captured payloads that went in one direction on one port (0 to 255; 200 to 203 have commands), as the lines
-/// of their file are heard: of each line its number, counted from 1, and its commands, each on a line, or the byte at which
+/// The text of captured payloads that went in one direction on one port (0 to 255; 200 to 203 have commands), while the lines of
+/// their file are heard: for each line its number, counted from 1, and its commands, each on a line, or the byte at which reading
+/// stops, counted from 0, and why.
 /// reading stops, counted from 0, and why.
-///
-/// The file has at most 20,000 lines of at most 600 bytes, each the hex digits of a payload of 0 to 242 bytes in the order
-/// sent. After the first line that is none, and after want of memory, no line does more. (The text is this project's
-/// profile.)
+/// The file has at most 20,000 lines of at most 600 bytes, each the hex digits of a payload of 0 to 242 bytes in the order sent.
+/// After the first line that is none, and after memory was missing, no line does more. (The text is this project's profile.)
 #[derive(Drop)]
 pub struct Decoding {
     port: u8,
@@ -35,8 +34,7 @@ pub struct Decoding {
     room: Room,
 }
 
-/// Room for the bytes of a line, and for the text of one line of what is said of it. It is kept, so that no line makes it
-/// anew.
+/// Room for the bytes of a line, and for the text of one line of output. It is kept, so that no line makes it anew.
 #[derive(Drop)]
 struct Room {
     bytes: [u8; MAX_HEX_BYTES],
@@ -75,7 +73,7 @@ impl HearsLine for Decoding {
 }
 
 impl Decoding {
-    /// After no line.
+    /// Makes a decoding before its first line.
     pub fn new(alloc: Global, port: u8, dir: Direction) -> Self
         ensures { DecodingStands port dir result [] }
     {
@@ -92,7 +90,7 @@ impl Decoding {
         }
     }
 
-    /// Hears a line, and keeps what comes of it.
+    /// Hears a line, and keeps its text or its fault.
     fn hear(&mut self, line: &[u8])
         ensures { HearsDecoded self.old line.now self.new }
     {
@@ -112,7 +110,7 @@ impl Decoding {
         }
     }
 
-    /// Whether a line was refused, or memory was wanting.
+    /// Says whether a line was refused, or memory was missing.
     fn is_kept(&self) -> bool
         ensures kept { result ≡ is_some self.now.kept }
         ensures stays { IsTrue result → (line : List ℕ) → HearsDecoded self.now line self.now }
@@ -120,9 +118,8 @@ impl Decoding {
         self.kept.is_some()
     }
 
-    /// The whole text of a file, after all its lines. `LineError::Line` names the first line that is refused, with
-    /// `LineWhy::Limit` where a bound is exceeded and else `LineWhy::Syntax`; `LineError::Memory` comes where memory was
-    /// wanting.
+    /// Returns the whole text of a file, after all its lines. `LineError::Line` names the first line that is refused, with
+    /// `LineWhy::Limit` where a limit is exceeded and else `LineWhy::Syntax`; `LineError::Memory` comes where memory was missing.
     pub fn text(self) -> Result<Vec<u8>, LineError>
         ensures { (port : ℕ) (dir : Direction) (file : List ℕ)
             → DecodingStands port dir self (lines_of file)

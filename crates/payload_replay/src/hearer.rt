@@ -1,4 +1,4 @@
-//! The device that hears captured payloads: made over a header, told of after all lines.
+//! The device that hears captured payloads: a header makes it, and the text at the end shows it.
 
 ghost use Rattle.report_lines.specs.Texts.{IsText};
 ghost use Rattle.std.specs.Prelude.{◌≡◌, ◌≤◌, ◌++◌, length, codes};
@@ -20,7 +20,7 @@ use report_lines::{
 use script_lines::{count_words, decimal, is_word, word};
 use std::alloc::{AllocError, Global};
 
-/// The device that a header asks for, which begins with this keyword.
+/// Makes the device that a header with this keyword asks for.
 pub fn begin(alloc: Global, keyword: &str, header: &[u8]) -> Result<Device<CellFlash>, LineError>
     ensures { IsBegun keyword.now (λ rows. replay_device rows) DeviceStands header.now result }
 {
@@ -37,8 +37,8 @@ pub fn begin(alloc: Global, keyword: &str, header: &[u8]) -> Result<Device<CellF
     }
 }
 
-/// The configuration of the device: class C, hardware version 0, a clock that is right, and so many rows. Its sessions are in
-/// memory alone.
+/// The configuration of the device: class C, hardware version 0, a clock that is right, and so many rows. Its sessions are only
+/// in memory.
 fn config(rows: u16) -> DeviceConfig
     ensures { result ≡ (replay_device rows).config }
 {
@@ -59,7 +59,7 @@ fn config(rows: u16) -> DeviceConfig
     }
 }
 
-/// The rows that a header gives.
+/// The rows that a header has.
 #[tactic(auto, unfolding(crate::specs::Headed::rows_of))]
 fn read_header(keyword: &str, line: &[u8]) -> Result<u16, LineWhy>
     ensures { result ≡ rows_of keyword.now line.now }
@@ -83,18 +83,18 @@ fn rows_by(rows: Option<u64>) -> Result<u16, LineWhy>
     }
 }
 
-/// The device hears a payload at moment 0, and its uplinks are thrown away.
+/// Makes the device hear a payload at moment 0, and drops its uplinks.
 pub fn hear(device: &mut Device<CellFlash>, payload: &[u8], mark: u64)
     requires { length payload.now ≤ max_payload }
     ensures { Becomes device.old device.new (λ before. after_payload mark payload.now before) }
 {
     let down = DownlinkRef::new(To::Unicast, FRAGMENT_PORT, payload);
-    // (a replay tells of what the session shows, not of the answer)
+    // (a replay shows the session, not the answer)
     let _delivered = device.receive(0, &down, 0, mark);
     device.drop_uplinks();
 }
 
-/// What is told of the device: from the counts on, to the last line.
+/// Makes the text that shows the device: from the counts to the last line.
 pub fn closing_text(alloc: Global, device: &Device<CellFlash>) -> Result<String, AllocError>
     ensures { (d : DeviceState) → DeviceStands device.now d
         → IsText result (closing_text d) }

@@ -1,4 +1,4 @@
-//! Laws about the definitions, each the contract of a function that does nothing.
+//! Laws about the definitions, each the contract of a function with an empty body.
 
 ghost use Rattle.payload_replay.specs.Capture.{CapturesAlways, CapturesOnce};
 ghost use Rattle.payload_replay.specs.CaptureReplay.{EndsAsReplay};
@@ -7,10 +7,10 @@ ghost use Rattle.payload_replay.specs.Replay.{ReplaysAlways, ReplaysOnce};
 ghost use Rattle.payload_replay.specs.ReplayHeadline.{ReplayHeadline};
 ghost use Rattle.payload_replay.specs.WorkedTexts.{AreCaptures, AreTexts};
 
-/// Whatever payloads are replayed: each session is what the commands that the lines carry make of it, so it hears nothing
-/// but what they carry, and each fragment since its setup that it has no cause to drop. It is complete from the first
-/// heard fragment on after which one file alone fits, without rows from the first that is one independent coded
-/// fragment too many, in conflict from the first after which no file fits, and the text says so.
+/// For any payloads that are replayed: each session is what the commands in the lines make of it. So it hears nothing but what
+/// the lines have for it, and each fragment since its setup that it has no cause to drop. It is complete from the first heard
+/// fragment on after which only one file fits, without rows from the first that is one independent coded fragment too many, in
+/// conflict from the first after which no file fits, and the text says so.
 pub fn replay_is_decided_at_first()
     ensures { ReplayHeadline }
 {}
@@ -27,20 +27,20 @@ pub fn decode_has_one_answer()
     ensures always { HasAnAnswer }
 {}
 
-/// A capture is told in one way: one text, or one first refused line.
+/// A capture has one answer: one text, or one first refused line.
 pub fn capture_has_one_answer()
     ensures once { CapturesOnce }
     ensures always { CapturesAlways }
 {}
 
-/// A capture whose payloads all go down on port 201 is told as its entries, and from the counts on as the replay of
-/// the same payloads in hex, whichever way their digits are written.
+/// The text of a capture whose payloads all go down on port 201 is its entries, and from the counts on that of the replay of the
+/// same payloads in hex, whichever way their digits are written.
 pub fn capture_ends_as_replay()
     ensures { EndsAsReplay }
 {}
 
-/// Texts that are worked out read so: commands and stops of a payload, lines and headers, and a replay with two
-/// sessions; of captures their lines and headers, entries, which of them are heard, and a text.
+/// Texts, worked out: commands and stops of a payload, lines and headers, and a replay with two sessions; for captures their
+/// lines and headers, entries, which of them are heard, and a text.
 pub fn worked_texts()
     ensures texts { AreTexts }
     ensures captures { AreCaptures }

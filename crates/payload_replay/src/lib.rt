@@ -1,9 +1,8 @@
-//! Captured payloads of the application packages (TS003 to TS006, 1.0.0), one a line in hex or as a JSON object: what
-//! each says, and where a device of TS004-1.0.0 stands that hears them. The lines, the headers and the texts are this
-//! project's profile.
-//! `Decoding`, `Replaying` and `Capturing` hear the lines as they come, and give exactly the text that these define, or
-//! the first refused line with its first cause.
-//! Words of a command line and files are left to the program above, and the script of a campaign to `campaign_world`.
+//! Captured payloads of the application packages (TS003 to TS006, 1.0.0), one a line in hex or as a JSON object: what each says,
+//! and the state of a device of TS004-1.0.0 that hears them. The lines, the headers and the texts are this project's profile.
+//! `Decoding`, `Replaying` and `Capturing` hear the lines as they come, and return exactly the text that these define, or the
+//! first refused line with its first cause. Words of a command line and files are left to the program above, and the script of a
+//! campaign to `campaign_world`.
 //!
 //!     let mut decoding = Decoding::new(alloc, 201, Direction::Down);
 //!     decoding.line(b"0801001122");                            // `HearsLine` has the call

@@ -9,14 +9,15 @@ use report_lines::{LineError, LineWhy, MAX_LINE, MAX_LINES, refused_behind};
 use script_lines::MAX_HEX_BYTES;
 use wire_base::MAX_PAYLOAD;
 
-/// A line that comes after so many is beyond the limits: it is no line of the first 20,000, or has more than 600 bytes.
+/// Says whether a line that comes after so many is beyond the limits: it is not among the first 20,000, or has more than 600
+/// bytes.
 pub fn is_beyond(lines: u32, line: &[u8]) -> bool
     ensures { result ≡ is_beyond lines line.now }
 {
     lines >= MAX_LINES || line.len() > MAX_LINE
 }
 
-/// Writes the payload of a line that comes after so many to the front of `out`, and says how many bytes it has.
+/// Writes the payload of a line that comes after so many to the front of `out`, and returns how many bytes it has.
 #[tactic(auto, unfolding(crate::specs::PayloadLines::payload_of, crate::specs::PayloadLines::payload_by))]
 pub fn read_payload(
     lines: u32,

@@ -1,4 +1,4 @@
-//! What `replay` tells of a file of captured payloads: where a device stands that hears them.
+//! The text of `replay` for a file of captured payloads: the state of a device that hears them.
 
 ghost use Rattle.std.specs.Prelude.{◌≡◌, ◌+◌, ◌<◌, ◌≤◌, [], ◌++◌, List, ℕ, IsTrue, is_some, Ok, IfOk, IfErr, OnOk, codes};
 ghost use Rattle.script_lines.specs.Lines.{lines_of};
@@ -19,13 +19,13 @@ use script_lines::{HearsLine, MAX_HEX_BYTES};
 use std::alloc::{AllocError, Global};
 use std::marker::Model;
 
-/// A replay, as the lines of its file are heard: a class C device with 4 sessions of at most 262,382 bytes hears captured
+/// A replay while the lines of its file are heard: a class C device with 4 sessions of at most 262,382 bytes hears captured
 /// payloads by unicast on port 201, downwards, at moment 0 ms.
 ///
-/// The first line of the file is `replay 1 ROWS`, with ROWS (decimal, 0 to 256) the coded fragments that a session holds.
-/// Lines 2 to 20,000, each of at most 600 bytes, are the hex digits of a payload of 0 to 242 bytes in the order sent. After
-/// the first line that is refused, and after want of memory, no line does more. (TS004-1.0.0; the file and the text are
-/// this project's profile.)
+/// The first line of the file is `replay 1 ROWS`; ROWS (decimal, 0 to 256) is the number of coded fragments that a session holds.
+/// Lines 2 to 20,000, each of at most 600 bytes, are the hex digits of a payload of 0 to 242 bytes in the order sent. After the
+/// first line that is refused, and after memory was missing, no line does more. (TS004-1.0.0; the file and the text are this
+/// project's profile.)
 #[derive(Drop)]
 pub struct Replaying {
     alloc: Global,
@@ -64,7 +64,7 @@ impl HearsLine for Replaying {
 }
 
 impl Replaying {
-    /// After no line.
+    /// Makes a replay before its first line.
     pub fn new(alloc: Global) -> Self
         ensures { ReplayingStands result [] }
     {
@@ -77,7 +77,7 @@ impl Replaying {
         }
     }
 
-    /// Hears a line, and keeps what comes of it.
+    /// Hears a line, and keeps its fault.
     fn hear(&mut self, line: &[u8])
         ensures { HearsReplayed self.old line.now self.new }
     {
@@ -93,7 +93,7 @@ impl Replaying {
         }
     }
 
-    /// Whether a line was refused, or memory was wanting.
+    /// Says whether a line was refused, or memory was missing.
     fn is_kept(&self) -> bool
         ensures kept { result ≡ is_some self.now.kept }
         ensures stays { IsTrue result → (line : List ℕ) → HearsReplayed self.now line self.now }
@@ -116,12 +116,12 @@ impl Replaying {
         }
     }
 
-    /// The text of a file, after all its lines: the counts of the device, and of each session its verdict, with the number
-    /// of the line that decided it, and its file in hex where it is whole.
+    /// Returns the text of a file, after all its lines: the counts of the device, and for each session its verdict, with the
+    /// number of the line that decided it, and its file in hex where it is whole.
     ///
-    /// `LineError::Line` names the first line that is refused and its first cause: `LineWhy::Limit` where a bound is
-    /// exceeded, `LineWhy::Range` where ROWS is above 256, and else `LineWhy::Syntax`; an empty file is refused at line 1.
-    /// `LineError::Memory` comes where memory is wanting.
+    /// `LineError::Line` names the first line that is refused and its first cause: `LineWhy::Limit` where a limit is exceeded,
+    /// `LineWhy::Range` where ROWS is above 256, and else `LineWhy::Syntax`; an empty file is refused at line 1.
+    /// `LineError::Memory` comes where memory is missing.
     pub fn text(&self) -> Result<Vec<u8>, LineError>
         ensures { (file : List ℕ) → ReplayingStands self.now (lines_of file)
             → IsFileText Replays file (seen_text result) }
@@ -158,7 +158,7 @@ fn hear_line(
     }
 }
 
-/// The text over the device.
+/// The text that shows the device.
 fn told(alloc: Global, device: &Device<CellFlash>) -> Result<Vec<u8>, LineError>
     ensures text { (d : DeviceState) → DeviceStands device.now d
         → IfOk result (λ text. text.items ≡ replay_text d) }

@@ -1,4 +1,4 @@
--- The lines of a device: where it stands, and what it counted (this project's profile).
+-- The lines of a device: its stage, and what it counted (this project's profile).
 use Rattle.std.specs.Prelude.{ℕ, List, ◌++◌, codes}
 use Rattle.std.specs.Fmt.{decimal}
 use Rattle.image_slots.specs.declared.view.ImageState.{ImageState}

@@ -1,4 +1,4 @@
--- What is told of a whole file, as it is handed in.
+-- What a report says of a whole file, as a call gets it.
 use Rattle.report_lines.specs.declared.sessions.Tail.{Tail}
 use Rattle.report_lines.specs.declared.sessions.Tail.TheVariants as tail
 use Rattle.report_lines.specs.Sessions.{ToldFile, same, whole}

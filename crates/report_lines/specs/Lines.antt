@@ -1,4 +1,4 @@
--- How the lines of a file are read and taken, one after another, and what is told of it (this project's profile).
+-- How the lines of a file are read and taken, one after another, and the text of the file (this project's profile).
 use Rattle.std.specs.Prelude.{◌≡◌, ℕ, ◌+◌, List, [], ◌∷◌, Option, Some, Result, Ok, Err}
 use Rattle.report_lines.specs.declared.faults.LineWhy.{LineWhy}
 use Rattle.report_lines.specs.declared.faults.LineFault.{LineFault}
@@ -20,13 +20,13 @@ abbrev pub BehindLine : {S P : Type 0} → Step P S → ℕ → S → Result P L
 BehindLine Takes lines state (Err cause) goes_on outcome = outcome ≡ Err (record { line = lines + 1; why = cause })
 BehindLine {S} Takes lines state (Ok said) goes_on outcome = (next : S) × Takes (lines + 1) said state next × goes_on next outcome
 
--- after so many lines the state is this one: what comes of those that are left, the last state or the first refused line
+-- after so many lines the state is this one: where the others lead, the last state or the first refused line
 unfoldable pub TakesLines : {P S : Type 0} → LineReading P → Step P S → ℕ → S → List (List ℕ) → Result S LineFault → Type 0
 TakesLines reading Takes lines state [] outcome = outcome ≡ Ok state
 TakesLines reading Takes lines state (line ∷ rest) outcome =
     BehindLine Takes lines state (reading lines line) (λ next. TakesLines reading Takes (lines + 1) next rest) outcome
 
--- ---- what is told of a file
+-- ---- the text of a file
 
 -- a file's text, or its first refused line
 abbrev pub FileText : Type 1
@@ -45,7 +45,7 @@ HasOneText Tells = (file : List ℕ) (one other : Result (List ℕ) LineFault) �
 abbrev pub HasAText : FileText → Type 0
 HasAText Tells = (file : List ℕ) → (said : Result (List ℕ) LineFault) × Tells file said
 
--- what was computed is a file's text or its first refused line, or memory was wanting
+-- what was computed is a file's text or its first refused line, or memory was missing
 abbrev pub IsFileText : FileText → (file : List ℕ) → Result (List ℕ) LineError → Type 0
 IsFileText Tells file (Ok text) = Tells file (Ok text)
 IsFileText Tells file (Err (error.Line fault)) = Tells file (Err fault)
@@ -53,7 +53,7 @@ IsFileText Tells file (Err error.Memory) = Unit {0}
 
 -- ---- as it is computed
 
--- a line that comes after so many is refused, or memory was wanting
+-- a line that comes after so many is refused, or memory was missing
 abbrev pub IsLineRefused : {P : Type 0} → LineReading P → ℕ → (line : List ℕ) → LineError → Type 0
 IsLineRefused reading lines line (error.Line fault) = (reading lines line ≡ Err fault.why) × (fault.line ≡ lines + 1)
 IsLineRefused reading lines line error.Memory = Unit {0}

@@ -9,7 +9,7 @@ use Rattle.frag_session.specs.Session.{Session, Seen, seen_of, view_of}
 use Rattle.device_core.specs.SessionTable.{SessionTable}
 use Rattle.report_lines.specs.Devices.{◌⧺◌}
 
--- ---- what is told of a whole file: whether it is that of an image, or its bytes
+-- ---- what a report says of a whole file: whether it is that of an image, or its bytes
 
 pub data ToldFile : Type 0 where
   same : (image : List ℕ) → ToldFile
@@ -28,7 +28,7 @@ file_line (verdict.Conflict line) file = []
 
 -- ---- lines
 
--- the verdict; of a whole file what stands after the line may be more
+-- the verdict; that of a whole file may have more after it
 abbrev pub verdict_text : Verdict → (behind : List ℕ) → List ℕ
 verdict_text verdict.Receiving behind = codes "receiving"
 verdict_text (verdict.Complete line) behind = codes "complete at " ⧺ decimal line ⧺ behind
@@ -63,7 +63,7 @@ session_lines tail table =
     session_line tail 0 (view_of table.first) ⧺ session_line tail 1 (view_of table.second)
     ⧺ session_line tail 2 (view_of table.third) ⧺ session_line tail 3 (view_of table.fourth)
 
--- ---- where the line of a session stands among them
+-- ---- where the line of a session is among them
 
 abbrev pub line_where : Bool → (line : List ℕ) → List ℕ
 line_where true line = line

@@ -4,11 +4,11 @@ use Rattle.std.specs.Global.{Global}
 use Rattle.std.specs.declared.vec.Vec.{Vec}
 use Rattle.report_lines.specs.declared.faults.LineError.{LineError}
 
--- the bytes of what a campaign gave
+-- the bytes of what a campaign returned
 abbrev pub seen_text : Result (Vec ℕ Global) LineError → Result (List ℕ) LineError
 seen_text (Ok text) = Ok text.items
 seen_text (Err e) = Err e
 
--- a text has these bytes, unless memory for it was wanting
+-- a text has these bytes, unless memory for it was missing
 abbrev pub IsText : {A E : Type 0} → Result (String A) E → List ℕ → Type 0
 IsText made bytes = IfOk made (λ text. string_bytes text ≡ bytes)

@@ -1,4 +1,4 @@
-//! The lines of a device: where it stands, and what it counted.
+//! The lines of a device: its stage, and what it counted.
 
 ghost use Rattle.std.specs.Prelude.{◌≡◌, Some, codes};
 ghost use Rattle.std.specs.Fmt.{decimal};
@@ -15,13 +15,13 @@ use std::fmt::{self, Display, Formatter, Write};
 /// What a device's line shows of it.
 #[derive(Clone, Copy, Debug, PartialEq, Eq)]
 pub struct Standing {
-    /// Of its clock, in s.
+    /// The seconds that its clock is ahead.
     pub offset: u32,
-    /// Of its next request for the time.
+    /// The token of its next AppTimeReq.
     pub token: u8,
     /// The version that it runs.
     pub running: u32,
-    /// What it runs next.
+    /// What is to run next.
     pub next: ImageState,
 }
 
@@ -29,7 +29,7 @@ impl Standing {
     ghost use Rattle.device_core.specs.Device.{DeviceState};
     ghost use Rattle.device_core.specs.HeldDevice.{DeviceStands};
 
-    /// How a device stands.
+    /// Reads how a device stands.
     pub fn of<F: Flash + Drop>(device: &Device<F>) -> Self
         ensures { (d : DeviceState) → DeviceStands device.now d → result ≡ standing_of d }
     {
@@ -61,8 +61,8 @@ impl Display for Standing {
     }
 }
 
-/// The line of a device: its name in the report (the ID), its stage, its clock's offset in s, the token of its next request
-/// for the time, the version that it runs and what it runs next.
+/// Makes the line of a device: its name in the report (the ID), its stage, its clock's offset in s, the token of its next
+/// AppTimeReq, the version that it runs and what is to run next.
 pub fn device_line(
     alloc: Global,
     name: &str,
@@ -75,7 +75,7 @@ pub fn device_line(
     format!(in alloc; "device {name} {stage} {stands}\n")
 }
 
-/// Where a device stands in the campaign, as its line says it.
+/// The stage of a device in the campaign, as its line says it.
 #[derive(Clone, Copy)]
 struct StageText(Stage);
 
@@ -109,7 +109,7 @@ fn request_word(request: Request) -> &'static str
     }
 }
 
-/// What a device runs next, as its line says it.
+/// What a device is to run next, as its line says it.
 #[derive(Clone, Copy)]
 struct NextText(ImageState);
 
@@ -126,8 +126,8 @@ impl Display for NextText {
     }
 }
 
-/// What a device counted: payloads that it did not hear, that it refused and that its outbox had no room for, and
-/// fragments that it dropped.
+/// Makes the line of what a device counted: payloads that it did not hear, that it refused and for which its outbox had no room,
+/// and fragments that it dropped.
 pub fn counts_line(alloc: Global, counts: Counts) -> Result<String, AllocError>
     ensures { IsText result (counts_line counts) }
 {

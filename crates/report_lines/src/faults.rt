@@ -1,4 +1,4 @@
-//! Refused lines, and why a call over lines answers nothing else.
+//! Refused lines, and why a call over lines has no other answer.
 
 ghost use Rattle.std.specs.Prelude.{◌≡◌, ◌≤◌, ◌+◌, ◌++◌, codes};
 ghost use Rattle.std.specs.Fmt.{decimal};
@@ -19,8 +19,8 @@ pub const MAX_LINE: usize = 600;
 /// Why a line is refused; the causes are tried in this order, some of `Limit` last of all.
 #[derive(Clone, Copy, Debug, PartialEq, Eq)]
 pub enum LineWhy {
-    /// The line's number is above 20,000, or it has more than 600 bytes; and last of all: it has a device with a flash
-    /// after four of them, a payload of more than 242 bytes, or nothing is left to send.
+    /// The line's number is above 20,000, or it has more than 600 bytes; and last of all: it is a device with a flash after four
+    /// of them, it has a payload of more than 242 bytes, or nothing is left to send.
     Limit,
     /// It spells no form, entry or payload, or the script ended without `end`.
     Syntax,
@@ -28,12 +28,11 @@ pub enum LineWhy {
     Order,
     /// A number is outside its range.
     Range,
-    /// There is no such device, or it has no flash for its power to come back to.
+    /// There is no such device, or it has no flash for `power`.
     Device,
-    /// The payload was not sent, or not to that device, or goes out as no frame; or the uplink was not made or is due
-    /// later.
+    /// The payload was not sent, or not to that device, or has no frame; or the uplink was not made, or is due later.
     Unsent,
-    /// The time that it tells is over.
+    /// Its time is over.
     Time,
 }
 
@@ -53,7 +52,7 @@ pub struct LineFault {
     pub why: LineWhy,
 }
 
-/// Why a call over lines answers nothing else.
+/// Why a call over lines has no other answer.
 #[derive(Clone, Copy, Debug, PartialEq, Eq, Error)]
 pub enum LineError {
     #[error("out of memory")]
@@ -73,7 +72,7 @@ impl From<AllocError> for LineError {
     }
 }
 
-/// The refusal of the line that comes after so many.
+/// Makes the refusal of the line that comes after so many.
 pub fn refused_behind(lines: u32, why: LineWhy) -> LineError
     requires { lines ≤ max_lines }
     ensures { result ≡ LineError.Line (record { line = lines + 1; why = why }) }
@@ -84,7 +83,7 @@ pub fn refused_behind(lines: u32, why: LineWhy) -> LineError
     })
 }
 
-/// What is said of a refused line: `line K WHY`.
+/// Makes the text of a refused line: `line K WHY`.
 pub fn fault_line(alloc: Global, fault: LineFault) -> Result<String, AllocError>
     ensures { IsText result (fault_line fault) }
 {

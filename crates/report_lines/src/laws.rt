@@ -1,8 +1,8 @@
-//! Laws about the definitions, each the contract of a function that does nothing.
+//! A law about the definitions, as the contract of a function with an empty body.
 
 ghost use Rattle.report_lines.specs.WorkedLines.{AreLines};
 
-/// Lines that are worked out read so: each word of each, with numbers that differ.
+/// Lines, worked out: each word of each, with numbers that differ.
 pub fn lines_read_so()
     ensures { AreLines }
 {}

@@ -1,7 +1,7 @@
-//! The lines of a report and of a file: which line is refused and why, where a device stands, what it counted, and what
-//! its sessions show; and how the lines of a file are taken one after another. The texts are this project's profile.
-//! Each call gives exactly the text that its definition says, or wants memory. What a campaign is, and what captured
-//! payloads make of a device, is left to the crates above.
+//! The lines of a report and of a file: which line is refused and why, the stage of a device, what it counted, and what its
+//! sessions show; and how the lines of a file are taken one after another. The texts are this project's profile. Each call
+//! returns exactly the text of its definition, or says that memory is missing. What a campaign is, and what captured payloads do
+//! to a device, is left to the crates above.
 //!
 //!     let stands = device_line(alloc, "3", stage, Standing::of(&device))?; // device 3 updated clock 0 token 0 ..
 //!     let counts = counts_line(alloc, device.counts())?;              // counts deaf 0 refused 0 full 0 dropped 0

@@ -16,7 +16,7 @@ use flash_session::Flash;
 use frag_session::{Verdict, View};
 use std::alloc::{AllocError, Global};
 
-/// What is told of a whole file.
+/// What a report says of a whole file.
 #[derive(Clone, Copy)]
 pub enum Tail<'a> {
     /// Whether it is this image: ` same` or ` other` after the line that completed it.
@@ -25,7 +25,7 @@ pub enum Tail<'a> {
     File,
 }
 
-/// The lines of the sessions that a device has, in the order of their indexes: fragments received and missing, and the
+/// Makes the lines of the sessions that a device has, in the order of their indexes: fragments received and missing, and the
 /// verdict with the mark of the fragment that decided it.
 pub fn session_lines<F: Flash + Drop>(
     alloc: Global,
@@ -42,7 +42,7 @@ pub fn session_lines<F: Flash + Drop>(
     Ok(text)
 }
 
-/// Puts the line of a session after those before it, if there is one.
+/// Puts the line of a session after those before it, where there is one.
 fn put_line<F: Flash + Drop>(
     alloc: Global,
     device: &Device<F>,
@@ -59,7 +59,7 @@ fn put_line<F: Flash + Drop>(
     text.push_str(line.as_str())
 }
 
-/// The line of a session, if there is one.
+/// The line of a session, where there is one.
 fn session_line<F: Flash + Drop>(
     alloc: Global,
     device: &Device<F>,
@@ -124,7 +124,7 @@ fn session_text(
     format!(in alloc; "session {index} received {received} missing {missing} {verdict}\n")
 }
 
-/// The verdict; of a whole file what stands after its line may be more.
+/// The verdict; that of a whole file may have more after it.
 fn verdict_text(alloc: Global, verdict: Verdict, behind: &str) -> Result<String, AllocError>
     ensures { IsText result (verdict_text verdict behind.now) }
 {
@@ -148,7 +148,7 @@ fn same_word(same: bool) -> &'static str
     if same { " same" } else { " other" }
 }
 
-/// The file in hex, on a line of its own, where it is whole.
+/// The file in hex, on its own line, where it is whole.
 fn file_line(alloc: Global, verdict: Verdict, file: &[u8]) -> Result<String, AllocError>
     ensures { IsText result (file_line verdict file.now) }
 {

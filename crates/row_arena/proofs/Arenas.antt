@@ -35,7 +35,7 @@ row_seen a rows cols cell words bytes r is lt =
 pub rows_counted : (a : Arena) (rows cols cell : ℕ) (words bytes : List ℕ) → seen rows cols cell words bytes ≡ a → length a.rows ≡ rows
 rows_counted a rows cols cell words bytes is = ap (λ (b : Arena). length b.rows) (sym is) ∙ length-rows_in rows (words_for cols) cell words bytes
 
--- row r lies within the storage
+-- row r is within the storage
 pub in_room : (rows r size : ℕ) (xs : List ℕ) → length xs ≡ rows * size → r < rows → r * size + size ≤ length xs
 in_room rows r size xs e lt = omega (arith, before r rows size lt, e)
 

@@ -293,7 +293,7 @@ pick_none n count old line known picks le words h c on =
           bit_of_word line c h.small ∙ ap (λ x. bit_at x (c % 64)) none ∙ bit_at-zero (c % 64)
     ]
 
--- a column of a line lies in its words
+-- a column of a line is in its words
 pub bit_inside : (words : List ℕ) (c : ℕ) → AreWords words → bit_at (line_in words) c ≡ 1 → c < 64 * length words
 bit_inside words c small on = elim (cases_lt (c / 64) (length words)) [
   | inl lt ↦ omega arith

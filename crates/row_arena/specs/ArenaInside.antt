@@ -1,4 +1,4 @@
--- What an arena keeps true, and where its rows lie.
+-- What an arena keeps true, and where its rows are.
 use Rattle.std.specs.Prelude.{◌≡◌, ℕ, ◌*◌, ◌^◌, ◌<◌, List, map, length}
 use Rattle.std.specs.List.{range_with_len}
 use Rattle.std.specs.Simd.Lanes.{chunk}

@@ -1,4 +1,4 @@
--- Rows of one shape: of each its line, column c as bit c of a number, and its bytes. (This project's profile.)
+-- Rows of one shape, each with its line, column c as bit c of a number, and its bytes. (This project's profile.)
 use Rattle.std.specs.Prelude.{ℕ, ◌+◌, ◌*◌, ◌/◌, ◌^◌, Bool, ◌&&◌, nat_le, List, slice_index_or, slice_set, replicate, bit_xor}
 use Rattle.std.specs.Simd.Lanes.{number_l, zip2}
 
@@ -20,7 +20,7 @@ zero_row cell = record { line = 0; part = replicate cell 0 }
 unfoldable pub row_at : Arena → ℕ → Row
 row_at arena r = slice_index_or arena.rows r (zero_row arena.cell)
 
--- the same rows, with another in the place of row r
+-- the same rows, with another instead of row r
 abbrev pub with_row : Arena → ℕ → Row → Arena
 with_row arena r row = record arena { rows = slice_set arena.rows r row }
 

@@ -4,12 +4,12 @@ use Rattle.std.specs.Int.{bit_at}
 use Rattle.std.specs.Int.Count.{ones}
 use Rattle.row_arena.specs.Rows.{line_in}
 
--- byte i, which was b, after byte i of each of these pieces was added; they lie one after the other
+-- byte i, which was b, after byte i of each of these pieces was added; the pieces follow one another
 unfoldable pub after_pieces : ℕ → List ℕ → ℕ → ℕ → List ℕ → ℕ
 after_pieces size area i b [] = b
 after_pieces size area i b (k ∷ ks) = after_pieces size area i (bit_xor b (get_or area (k * size + i) 0)) ks
 
--- the picked pieces of this size lie in the area
+-- the picked pieces of this size are in the area
 abbrev pub AreInside : (picks : List ℕ) → (size : ℕ) → (area : List ℕ) → Type 0
 AreInside picks size area = (n : ℕ) → n < length picks → slice_index picks n * size + size ≤ length area
 

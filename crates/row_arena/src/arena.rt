@@ -19,8 +19,8 @@ use thiserror::Error;
 #[error("the storage is too small")]
 pub struct NoRoom;
 
-/// Rows of one shape: each has a line, a bit for each of its columns, and bytes beside it. All lie in the value itself, in
-/// `WORDS` words of 64 bits (at most 16,384) and `BYTES` bytes (at most 61,184). A contract sees the rows as a list.
+/// Rows of one shape: each has a line, a bit for each of its columns, and bytes. All are held in the value itself, in `WORDS`
+/// words of 64 bits (at most 16,384) and `BYTES` bytes (at most 61,184). A contract sees the rows as a list.
 #[derive(Drop)]
 pub struct RowArena<const WORDS: usize, const BYTES: usize> {
     words: ArrayVec<u64, WORDS>,
@@ -46,7 +46,7 @@ impl<const WORDS: usize, const BYTES: usize> Model for RowArena<WORDS, BYTES> {
 }
 
 impl<const WORDS: usize, const BYTES: usize> RowArena<WORDS, BYTES> {
-    /// An arena of no rows, columns or bytes.
+    /// Makes an arena of no rows, columns or bytes.
     pub fn new() -> Self
         requires words { WORDS ≤ max_words }
         requires bytes { BYTES ≤ max_bytes }
@@ -61,8 +61,8 @@ impl<const WORDS: usize, const BYTES: usize> RowArena<WORDS, BYTES> {
         }
     }
 
-    /// Has so many rows from now on, of `cols` columns and `cell` bytes each (any numbers of 16 bits), which are all
-    /// zero. Where their words, (`cols` + 63) / 64 a row, or their bytes do not fit, the arena stays as it was.
+    /// Gives the arena so many rows, of `cols` columns and `cell` bytes each (any numbers of 16 bits), all zero. Where their
+    /// words, (`cols` + 63) / 64 a row, or their bytes do not fit, `NoRoom` comes and the arena stays as it was.
     pub fn shape(&mut self, rows: u16, cols: u16, cell: u16) -> Result<(), NoRoom>
         ensures room { is_ok result ≡ has_room WORDS BYTES rows cols cell }
         ensures shaped { OnOk result (self.new
@@ -82,21 +82,21 @@ impl<const WORDS: usize, const BYTES: usize> RowArena<WORDS, BYTES> {
         Ok(())
     }
 
-    /// How many rows there are.
+    /// Returns how many rows there are.
     pub fn rows(&self) -> u16
         ensures { result ≡ length self.now.rows }
     {
         self.rows
     }
 
-    /// How many columns each row has.
+    /// Returns how many columns each row has.
     pub fn cols(&self) -> u16
         ensures { result ≡ self.now.cols }
     {
         self.cols
     }
 
-    /// Adds row `from` to row `into`, bit by bit; they are two different rows. All others stay.
+    /// Adds row `from` to row `into`, bit by bit; these are two different rows. All others stay.
     pub fn xor_row(&mut self, into: u16, from: u16)
         requires into { into < length self.old.rows }
         requires from { from < length self.old.rows }
@@ -110,7 +110,7 @@ impl<const WORDS: usize, const BYTES: usize> RowArena<WORDS, BYTES> {
         xor_bytes_at(&mut self.bytes, into as usize, from as usize, cell);
     }
 
-    /// Writes a line and bytes over row `r`. The line has as many words as a row, the lowest first, and no bit past the last
+    /// Writes a line and bytes over row `r`. The line has as many words as a row, the lowest first, and no bit after the last
     /// column; there are as many bytes as a row has. All other rows stay.
     #[tactic(auto, using(crate::proofs::Arenas::arenas))]
     pub fn set_row(&mut self, r: u16, line: &[u64], part: &[u8])
@@ -150,7 +150,7 @@ impl<const WORDS: usize, const BYTES: usize> RowArena<WORDS, BYTES> {
         clear_bytes(&mut self.bytes, r as usize, cell);
     }
 
-    /// The words of row `r`, the lowest first.
+    /// Returns the words of row `r`, the lowest first.
     pub fn words(&self, r: u16) -> &[u64]
         requires { r < length self.now.rows }
         ensures line { line_in result.now ≡ (row_at self.now r).line }
@@ -162,7 +162,7 @@ impl<const WORDS: usize, const BYTES: usize> RowArena<WORDS, BYTES> {
         words_at(&self.words, r as usize, width)
     }
 
-    /// The bytes of row `r`.
+    /// Returns the bytes of row `r`.
     pub fn bytes(&self, r: u16) -> &[u8]
         requires { r < length self.now.rows }
         ensures part { result.now ≡ (row_at self.now r).part }
@@ -172,7 +172,7 @@ impl<const WORDS: usize, const BYTES: usize> RowArena<WORDS, BYTES> {
         bytes_at(&self.bytes, r as usize, cell)
     }
 
-    /// The first column of row `r`: `None` exactly where its line is zero.
+    /// Returns the first column of row `r`; None exactly where its line is zero.
     pub fn first_set(&self, r: u16) -> Option<u16>
         requires { r < length self.now.rows }
         ensures { MatchOption result ((row_at self.now r).line ≡ 0)
@@ -185,7 +185,7 @@ impl<const WORDS: usize, const BYTES: usize> RowArena<WORDS, BYTES> {
         }
     }
 
-    /// Whether row `r` has column `c`, which is below the number of columns.
+    /// Says whether row `r` has column `c`, which is below the number of columns.
     pub fn bit(&self, r: u16, c: u16) -> bool
         requires inside { r < length self.now.rows }
         requires column { c < self.now.cols }
@@ -195,7 +195,7 @@ impl<const WORDS: usize, const BYTES: usize> RowArena<WORDS, BYTES> {
     }
 }
 
-/// How many words of 64 bits a row of so many columns takes.
+/// Returns how many words of 64 bits a row of so many columns takes.
 #[tactic(auto, unfolding(crate::specs::Rows::words_for))]
 pub fn words_for(cols: u16) -> usize
     ensures value { result ≡ words_for cols }
@@ -204,7 +204,7 @@ pub fn words_for(cols: u16) -> usize
     (cols as usize + 63) / 64
 }
 
-/// Holds so many words, all zero. They are copied in by the stretch: pushes one by one take twelve instructions each.
+/// Makes so many words, all zero. They are copied in whole stretches: pushing them one by one takes twelve instructions each.
 fn zero_words<const N: usize>(words: &mut ArrayVec<u64, N>, n: usize)
     requires { n ≤ N }
     ensures { words.new.items ≡ replicate n 0 }
@@ -219,7 +219,7 @@ fn zero_words<const N: usize>(words: &mut ArrayVec<u64, N>, n: usize)
     }
 }
 
-/// Holds so many bytes, all zero, copied in as words are.
+/// Makes so many bytes, all zero, copied in as words are.
 fn zero_bytes<const N: usize>(bytes: &mut ArrayVec<u8, N>, n: usize)
     requires { n ≤ N }
     ensures { bytes.new.items ≡ replicate n 0 }

@@ -1,4 +1,4 @@
-//! A law about the definitions, the contract of a function that does nothing.
+//! A law about the definitions, as the contract of a function with an empty body.
 
 ghost use Rattle.row_arena.specs.WorkedRows.{WorkedRows};
 

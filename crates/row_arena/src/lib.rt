@@ -1,7 +1,7 @@
-//! Rows of bits and bytes in storage of fixed size, and their sums by XOR. (How a device recovers a file that TS004-1.0.0
-//! sends in fragments is this project's profile; this layer is its storage and its arithmetic.) Each call of a `RowArena`
-//! says exactly which rows there are afterwards, and `pick` and `sum_pieces` what they take out of a line and add to a part.
-//! Which rows are worth keeping, and what they mean, is left to the elimination above.
+//! Rows of bits and bytes in storage of fixed size, and their sums by XOR: the storage and the arithmetic with which a device
+//! recovers a file that TS004-1.0.0 sends in fragments (this project's profile). Each call of a `RowArena` says exactly which
+//! rows there are afterwards; `pick` and `sum_pieces` say what they take out of a line and add to a part. Which rows are worth
+//! keeping, and what they mean, is left to the elimination above.
 //!
 //!     let mut arena: RowArena<64, 768> = RowArena::new();
 //!     arena.shape(16, 256, 48)?;                // 16 rows of 256 columns and 48 bytes, all zero

@@ -4,8 +4,8 @@ ghost use Rattle.std.specs.Prelude.{◌≡◌, ◌*◌, ◌≤◌, length};
 ghost use Rattle.row_arena.specs.Limits.{max_width};
 ghost use Rattle.row_arena.specs.Sums.{ArePicked};
 
-/// Takes the known columns out of a line, lists them in front of `picks`, and says how many there are. Line and known
-/// columns have as many words (at most 1,024), the lowest first, and `picks` has room for all their columns.
+/// Takes the known columns out of a line, lists them in front of `picks`, and returns how many there are. Line and known columns
+/// have as many words (at most 1,024), the lowest first, and `picks` has room for all their columns.
 pub fn pick(line: &mut [u64], known: &[u64], picks: &mut [u16]) -> usize
     requires same { length line.old ≡ length known.now }
     requires room { 64 * length line.old ≤ length picks.old }

@@ -6,8 +6,8 @@ ghost use Rattle.row_arena.specs.Sums.{AreInside, IsSum, SumsFrom};
 use crate::lanes::xor_bytes;
 use std::simd::prelude::*;
 
-/// Writes over `rest`, which is as long, the sum of `part` and the picked pieces. Piece k lies in `area` from k times
-/// the length of `part` on, and is as long.
+/// Writes the sum of `part` and the picked pieces over `rest`, which is as long. Piece k begins in `area` at k times the length
+/// of `part`, and is as long as `part`.
 pub fn sum_pieces(area: &[u8], picks: &[u16], part: &[u8], rest: &mut [u8])
     requires sized { length rest.old ≡ length part.now }
     requires picks { AreInside picks.now (length part.now) area.now }
@@ -52,8 +52,8 @@ fn lanes_at(bytes: &[u8], at: usize) -> u8x16
     u8x16::from_array(lanes)
 }
 
-/// The same, 16 bytes of all of them twice at a time, so that a part of at most 32 takes one pass. A part has at least 16,
-/// and fewer than 64.
+/// The same, 16 bytes of all of them, twice at a time, so that a part of at most 32 takes one pass. A part has at least 16, and
+/// fewer than 64.
 fn sum_middle(area: &[u8], picks: &[u16], part: &[u8], rest: &mut [u8])
     requires sized { length rest.old ≡ length part.now }
     requires some { 16 ≤ length part.now }

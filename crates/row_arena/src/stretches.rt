@@ -71,7 +71,7 @@ pub fn put_bytes(bytes: &mut [u8], k: usize, from: &[u8])
     bytes[at..at + from.len()].copy_from_slice(from);
 }
 
-/// The `k`-th stretch of so many words.
+/// Returns the `k`-th stretch of so many words.
 #[tactic(auto, using(crate::proofs::Written::written))]
 pub fn words_at(words: &[u64], k: usize, size: usize) -> &[u64]
     requires { k * size + size ≤ length words.now }
@@ -81,7 +81,7 @@ pub fn words_at(words: &[u64], k: usize, size: usize) -> &[u64]
     &words[k * size..k * size + size]
 }
 
-/// The `k`-th stretch of so many bytes.
+/// Returns the `k`-th stretch of so many bytes.
 #[tactic(auto, using(crate::proofs::Written::written))]
 pub fn bytes_at(bytes: &[u8], k: usize, size: usize) -> &[u8]
     requires { k * size + size ≤ length bytes.now }

@@ -1,4 +1,4 @@
--- A piece put in the place of a row, and the row that is left put into its slot.
+-- A piece put instead of a row, and the row that is left put into its slot.
 use Rattle.std.proofs.Common.{◌≡◌, ◌≢◌, ◌⊎◌, ℕ, ◌<◌, ◌≤◌, List, ◌++◌, take, drop, length, length-take-le, get_or, set, sym, ap, ◌∙◌, subst, inl, inr}
 use Rattle.std.proofs.lemmas.List.{set-set, set_comm, take_at}
 use Rattle.row_arena.specs.Rows.{Arena}

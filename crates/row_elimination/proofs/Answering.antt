@@ -285,7 +285,7 @@ concat_chunks size (p ∷ b) xs h =
     ∙ sym (take-add size (length b * size) xs)
     ∙ ap (λ n. take n xs) (let e : size + length b * size ≡ suc (length b) * size = omega (arith, suc-mul (length b) size) in e)
 
--- once nothing is free, and all parts lie in the area
+-- once nothing is free, and all parts are in the area
 pub completes : (g now new : Grid) (n : ℕ) (part : List ℕ) → length part ≡ g.shape.frag_size → IsReduced g.shape.nb_frag g.shape.frag_size g.places
     → Takes (held_of stage.Receiving g) (held_of stage.Receiving now) n part → IsReduced now.shape.nb_frag now.shape.frag_size now.places → gained_held now.places ≡ now.shape.nb_frag
     → new.places ≡ now.places → SameRoom now new → ((c : ℕ) (e : Equation) → Tells now.places c e → chunk c now.shape.frag_size new.area ≡ e.part)

@@ -1,4 +1,4 @@
--- Blocks that fit what is held: there is one for each choice of the free pieces, and where none is free there is one alone.
+-- Blocks that fit what is held: there is one for each choice of the free pieces, and only one where none is free.
 use Rattle.std.proofs.Common.{◌≡◌, ◌≢◌, ◌⊎◌, ℕ, zero, suc, ◌<◌, ◌≤◌, ◌/◌, ◌%◌, ◌^◌, true, false, cond, ◌==◌, List, [], ◌∷◌, set, length, get_or, replicate, All, Option, Some, None, bit_xor, refl, sym, ap, ◌∙◌, subst, inl, inr, arith, length-set, get_or-set_other, eqb-true}
 use Rattle.std.specs.List.{AllByRecursion}
 use Rattle.std.specs.Int.{bit_at}
@@ -207,7 +207,7 @@ two_fitting shape ps k t pos lt none =
 
 -- ---- where no column is free
 
--- each equation then has its own column alone
+-- each equation then has only its own column
 pub alone_line : (cols size : ℕ) (ps : List Place) (c : ℕ) (e : Equation) → IsReduced cols size ps → ((k : ℕ) → k < cols → (f : Equation) × Tells ps k f) → Tells ps c e → e.line ≡ 2 ^ c
 alone_line cols size ps c e t all h = same_from_bits e.line (2 ^ c) (λ i. elim (cases_eq i c) [
   | inl same ↦ ap (λ n. bit_at e.line n) same ∙ t.own c e h ∙ sym (ap (λ n. bit_at (2 ^ c) n) same ∙ bit_at-pow_same c)

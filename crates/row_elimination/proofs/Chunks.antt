@@ -41,7 +41,7 @@ put_others j k size n xs ys e f room ne = elim (cases_lt j k) [
       ap (λ l. take size l) (drop-put_mid (k * size) n xs ys (j * size) (omega arith) (omega arith) (e ∙ sym f))
 ]
 
--- a stretch of full length lies within
+-- a stretch of full length is within
 pub chunk_within : (k size : ℕ) (area : List ℕ) → length (chunk k size area) ≡ size → k * size + size ≤ length area
 unfolding chunk
 chunk_within k zero area e = omega arith

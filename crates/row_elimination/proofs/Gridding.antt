@@ -51,7 +51,7 @@ grid_next nb size rows count count' gained gained' columns columns' spare spare'
   gained_all = gained_is ∙ sym (ap gained_held is);
 }
 
--- a piece that is kept lies within the area
+-- a piece that is kept is within the area
 pub piece_room : (nb size rows count gained k : ℕ) (columns : List Column) (spare known area : List ℕ) (arena : Arena) → IsGrid nb size rows count gained columns spare known area arena
     → get_or (take nb columns) k Free ≡ Piece → k * size + size ≤ length area
 piece_room nb size rows count gained k columns spare known area arena h is =
@@ -143,7 +143,7 @@ pushed nb size rows count gained cols len slot p columns columns' spare known ar
     (omega (arith, rows_grown p l part ps plt was, h.counted))
     (ap (λ x. x + 1) h.gained_all ∙ sym (gained_more p l part ps plt was))
 
--- a piece and a row that takes the place of the row that its column led
+-- a piece and a row that replaces the row that its column led
 pub learned_kind : (shape : Shape) (area : List ℕ) (arena : Arena) (os : List Column) (k p y : ℕ) (q part : List ℕ)
     → IsNew shape.nb_frag shape.frag_size (places_in shape.frag_size area arena os) p y q
     → Knows shape (grown p y q (places_in shape.frag_size area arena os)) k part
@@ -199,7 +199,7 @@ learned nb size rows count gained cols len k p columns columns' spare known know
     (omega (arith, more, less, row_there, h.counted))
     (ap (λ x. x + 1) h.gained_all ∙ sym (gained_more p l q ps plt was) ∙ sym (settled_gained file next k part known_is))
 
--- a piece in the place of a row that says the same
+-- a piece instead of a row that says the same
 pub settled_count : (shape : Shape) (area : List ℕ) (arena : Arena) (os : List Column) (k slot : ℕ) (part : List ℕ)
     → Knows shape (places_in shape.frag_size area arena os) k part → get_or os k Free ≡ Row slot
     → rows_held (set (places_in shape.frag_size area arena os) k (piece part)) + 1 ≡ rows_held (places_in shape.frag_size area arena os)

@@ -47,7 +47,7 @@ slots_pushed os spare rows count p lt more h =
       spare_alone = λ i j a b d f. h.spare_alone i j (omega arith) b (omega arith) f;
     }
 
--- a piece in place of whatever was there
+-- a piece instead of whatever was there
 pub slots_piece : (os : List Column) (spare : List ℕ) (rows count k : ℕ) → k < length os → Slots os spare rows count → Slots (set os k Piece) spare rows count
 slots_piece os spare rows count k lt h = record {
   within = λ c t e. elim (set_cases os k c Piece (Row t) lt e) [ inl x ↦ absurd (piece_no_row t x.1) | inr x ↦ h.within c t x.1 ];

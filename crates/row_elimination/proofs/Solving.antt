@@ -34,7 +34,7 @@ roomy words bytes extent nb size rows h =
     let b = and_parts (nat_le (rows * words_for nb) words && nat_le (rows * size) bytes) (nat_le (nb * size) extent.area) a.0 in
     record { arena = b.0; pieces = leb-true (nb * size) extent.area b.1; few = leb-true nb extent.pieces a.1 }
 
--- ---- what lies in the box
+-- ---- what is in the box
 
 abbrev pub IsKept : {W B : ℕ} → Kept W B → Type 0
 IsKept k = IsSolver k.table k.stage (vec_capacity k.line) (vec_capacity k.picks) k.line.items k.picks.items k.part.items

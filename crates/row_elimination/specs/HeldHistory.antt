@@ -1,5 +1,5 @@
--- When a solver that receives stands for a list of heard fragments, newest first. Layers above need not open it: the law
--- of the solver says of every list that it stands for what each answer of `feed` means.
+-- When a solver that receives stands for a list of heard fragments, newest first. Layers above need not open it: the law of the
+-- solver says, for every list that it stands for, what each answer of `feed` means.
 use Rattle.std.specs.Prelude.{◌≡◌, ◌↔◌, ℕ, suc, ◌+◌, ◌<◌, ◌≤◌, List, [], ◌∷◌, ◌++◌, map}
 use Rattle.std.specs.List.{concat, AllByRecursion}
 use Rattle.frag_model.specs.Fragments.{Fragment, IsUncoded, line_of}
@@ -33,7 +33,7 @@ pub record FeedStands : Type 0 where
   pub lacks : (held : Held) (heard : List Fragment) → StandsFor held heard → missing held.shape heard ≡ missing_of held
   -- the rows held are the excess, and no more than there are
   pub receives : (old new : Held) (f : Fragment) (older : List Fragment) → 1 ≤ f.number → StandsFor old older → Receives old new f.number f.part → StandsFor new (f ∷ older)
-  -- the verdict names the block whose bytes lie in the area
+  -- the verdict names the block whose bytes are in the area
   pub completes : (old new : Held) (f : Fragment) (older : List Fragment) → 1 ≤ f.number → StandsFor old older → Completes old new f.number f.part
       → (block : List (List ℕ)) × (verdict old.shape (f ∷ older) ≡ complete f.mark block) × (new.content ≡ concat block) × (missing old.shape (f ∷ older) ≡ 0) × (missing_of new ≡ 0)
   pub contradicts : (old new : Held) (f : Fragment) (older : List Fragment) → 1 ≤ f.number → StandsFor old older → Contradicts old new f.number f.part

@@ -11,7 +11,7 @@ use Rattle.row_elimination.specs.declared.stages.Fed.TheVariants as fed
 use Rattle.row_elimination.specs.Room.{Extent}
 use Rattle.row_elimination.specs.HeldPlaces.{Place, free, is_piece, pieces_held, rows_held, gained_held, lines_held, FitsHeld}
 
--- what a solver holds: the shape of its file, what is held of each column, and the bytes that lie in its area
+-- what a solver holds: the shape of its file, what is held of each column, and the bytes in its area
 pub record Held : Type 0 where
   pub shape : Shape
   pub places : List Place
@@ -74,7 +74,7 @@ pub record Receives (old new : Held) (n : ℕ) (part : List ℕ) : Type 0 where
   pub stage : new.stage ≡ stage.Receiving
   pub two : TwoFit new
 
--- it is complete: one block is left over, and its bytes lie in the area
+-- it is complete: one block is left over, and its bytes are in the area
 pub record Completes (old new : Held) (n : ℕ) (part : List ℕ) : Type 0 where
   pub takes : Takes old new n part
   pub stage : new.stage ≡ stage.Complete
@@ -116,7 +116,7 @@ pub record IsBegun (h : Held) : Type 0 where
   pub stage : h.stage ≡ stage.Receiving
   pub places : h.places ≡ replicate h.shape.nb_frag free
 
--- what asking it to begin a file of this shape makes of a solver
+-- what a solver becomes when it is asked to begin a file of this shape
 pub record Begins {E : Type 0} (old new : Held) (file : Shape) (result : Result (Unit {0}) E) : Type 0 where
   -- at Ok nothing is held of the file, and two different blocks fit
   pub begun : OnOk result (IsBegun new)

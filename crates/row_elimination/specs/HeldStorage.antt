@@ -1,4 +1,4 @@
--- Where the places lie: pieces in the area, one after the other; of each row the line and the part in a slot of the arena.
+-- Where the places are: pieces in the area, one after the other; the line and the part of each row in a slot of the arena.
 use Rattle.std.specs.Prelude.{◌≡◌, ◌≢◌, ℕ, suc, ◌*◌, ◌^◌, ◌<◌, ◌≤◌, List, [], ◌∷◌, length, take, drop, get_or, set, ◌==◌, if◌then◌else◌}
 use Rattle.std.specs.Int.{bit_at}
 use Rattle.row_arena.specs.Rows.{Arena, Row as Line, row_at, row_sum, line_in, words_for}
@@ -59,7 +59,7 @@ pub record ClearsAll (p y : ℕ) (q : List ℕ) (old new : Arena) : Type 0 where
   pub each : (s : ℕ) → s < length old.rows → row_at new s ≡ line_cleared p y q (row_at old s)
   pub shape : SameShape old new
 
--- what is kept of a column once its piece lies in the area: there the piece, or in its slot the part of its row
+-- what is kept of a column once its piece is in the area: there the piece, or in its slot the part of its row
 unfoldable pub part_in : ℕ → List ℕ → Arena → ℕ → Column → List ℕ
 part_in size area arena c Free = chunk c size area
 part_in size area arena c Piece = chunk c size area

@@ -57,7 +57,7 @@ pub record IsFed (answer : Fed) (old new : Grid) (n : ℕ) (part : List ℕ) : T
   pub room : SameRoom old new
   pub held : IsReduced new.shape.nb_frag new.shape.frag_size new.places
 
--- what deciding makes of a table: nothing while something is free, else all parts lie in the area
+-- what deciding makes of a table: nothing while something is free; else all parts are in the area
 unfoldable pub DecidedAs : Fed → Grid → Grid → Type 0
 DecidedAs fed.Receiving old new = (new ≡ old) × (gained_held old.places < old.shape.nb_frag)
 DecidedAs fed.Complete old new =

@@ -1,4 +1,4 @@
-//! What a fragment adds to the table: a row, a piece, or a piece that takes the place of a row.
+//! What a fragment adds to the table: a row, a piece, or a piece that replaces a row.
 
 ghost use Rattle.std.specs.Prelude.{◌≡◌, ◌≢◌, ℕ, ◌+◌, ◌*◌, ◌<◌, ◌≤◌, length, get_or, List, set, take};
 ghost use Rattle.row_arena.specs.Rows.{Arena, line_in};
@@ -14,7 +14,7 @@ use parity_lines::Steps;
 use row_arena::RowArena;
 use std::sync::ledger::Ledger;
 
-/// Adds a row, which its column `p` leads, in a slot that no column uses, and counts the rows that it is added to.
+/// Adds a row that its column `p` leads, in a slot that no column uses, and counts the rows that it is added to.
 pub fn add_row<const W: usize, const B: usize, M: Ledger>(
     columns: &mut [PackedColumn],
     arena: &mut RowArena<W, B>,
@@ -53,8 +53,8 @@ pub fn add_piece(columns: &mut [PackedColumn], cols: usize, area: &mut [u8], k: 
     put_piece(&mut columns[..cols], area, k, part);
 }
 
-/// Puts the piece of column `k` into the area, and a row, which its column `p` leads, where the row was that `k` led. Where
-/// `k` led none the row is the piece itself. Counts the rows that it is added to.
+/// Puts the piece of column `k` into the area, and a row that its column `p` leads into the slot of the row that `k` led. Where
+/// `k` led none, the new row is the piece itself. Counts the rows that it is added to.
 pub fn add_piece_and_row<const W: usize, const B: usize, M: Ledger>(
     columns: &mut [PackedColumn],
     area: &mut [u8],

@@ -3,7 +3,7 @@
 ghost use Rattle.std.specs.Prelude.{◌≡◌, ◌≢◌, ℕ, ◌+◌, ◌*◌, ◌≤◌, length};
 ghost use Rattle.row_elimination.specs.HeldStorage.{chunk};
 
-/// The `k`-th stretch of `size` items.
+/// Returns the `k`-th stretch of `size` items.
 pub fn chunk<T>(items: &[T], k: usize, size: usize) -> &[T]
     requires { k * size + size ≤ length items.now }
     ensures value { result.now ≡ chunk k size items.now }

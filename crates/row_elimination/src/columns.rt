@@ -37,7 +37,7 @@ impl Model for PackedColumn {
 }
 
 impl PackedColumn {
-    /// The column, whose slot is 65,533 at most.
+    /// Packs a column, whose slot is at most 65,533.
     pub fn new(column: Column) -> PackedColumn
         requires { (slot : ℕ) → column ≡ Column.Row slot → slot ≤ last_slot }
         ensures { result ≡ column }
@@ -49,7 +49,7 @@ impl PackedColumn {
         }
     }
 
-    /// What is kept.
+    /// Returns what is kept.
     pub fn column(&self) -> Column
         ensures same { result ≡ self.now }
         ensures fits { (slot : ℕ) → result ≡ Column.Row slot → slot ≤ last_slot }

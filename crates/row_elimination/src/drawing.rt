@@ -9,8 +9,8 @@ use parity_lines::Steps;
 use row_arena::{clear_bits, flip_bit};
 use std::sync::ledger::Ledger;
 
-/// Writes the line of fragment `n` of a file of `pieces` pieces, for each of which there is room, and counts the states that
-/// are drawn for it.
+/// Writes the line of fragment `n` of a file of `pieces` pieces, and counts the states that are drawn for it. The line has room
+/// for all pieces.
 pub fn draw<L: Ledger>(n: u16, pieces: u16, line: &mut [u64], draws: &mut Steps<L>)
     requires some { 1 ≤ pieces }
     requires most { pieces ≤ max_pieces }
@@ -28,7 +28,7 @@ pub fn draw<L: Ledger>(n: u16, pieces: u16, line: &mut [u64], draws: &mut Steps<
     }
 }
 
-/// Marks one column alone.
+/// Marks only one column.
 fn mark_piece(c: usize, line: &mut [u64])
     requires { c < 64 * length line.old }
     ensures { line_in line.new ≡ 2 ^ c }

@@ -1,4 +1,4 @@
-//! Putting a piece or a row where its column keeps it, and all parts where their pieces belong.
+//! Puts a piece or a row where its column keeps it, and all parts where their pieces belong.
 
 ghost use Rattle.std.specs.Prelude.{◌≡◌, ◌≢◌, ℕ, ◌+◌, ◌*◌, ◌<◌, ◌≤◌, length, get_or, List, set};
 ghost use Rattle.row_arena.specs.Rows.{Arena, line_in};

@@ -1,4 +1,4 @@
-//! Laws about what a solver stands for, each the contract of a function that does nothing.
+//! A law about what a solver stands for, as the contract of a function with an empty body.
 
 ghost use Rattle.row_elimination.specs.HeldHistory.{FeedStands};
 

@@ -1,8 +1,7 @@
-//! Recovering a file from fragments of it in fixed memory (TS004-1.0.0, fragmented data block transport; how a device
-//! recovers is this project's profile). A `Solver` keeps the pieces that came uncoded and, fully reduced, the rows of what
-//! coded fragments told beyond them; its contract says of each fragment which blocks fit afterwards, and that it is complete
-//! exactly when one block alone does. Which fragments are heard, and what becomes of a whole file, is left to the sessions
-//! above.
+//! Recovering a file from its fragments in fixed memory (TS004-1.0.0, fragmented data block transport; how a device recovers is
+//! this project's profile). A `Solver` keeps the pieces that came uncoded and, fully reduced, a row for what each coded fragment
+//! adds to them. Its contract says after each fragment which blocks fit, and that the solver is complete exactly when only one
+//! block fits. Which fragments are heard, and what happens to a whole file, is left to the sessions above.
 //!
 //!     let mut solver: Solver<64, 768> = Solver::reserve(alloc, 256 * 48)?;   // all memory
 //!     solver.begin(nb_frag, frag_size, padding, 16)?;

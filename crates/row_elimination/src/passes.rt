@@ -1,4 +1,4 @@
-//! Taking the columns that lead out of an equation, and a new row's column out of the rows.
+//! Takes the leading columns out of an equation, and a new row's column out of the rows.
 
 ghost use Rattle.std.specs.Prelude.{◌≡◌, ℕ, ◌+◌, ◌*◌, ◌<◌, ◌≤◌, length, take, slice_index, bit_xor};
 ghost use Rattle.std.specs.Int.{bit_at};
@@ -18,9 +18,9 @@ use parity_lines::Steps;
 use row_arena::{RowArena, pick, sum_pieces, xor_bytes, xor_words};
 use std::sync::ledger::Ledger;
 
-/// Takes out of a line, and out of the bytes `part`, all columns of which a piece or a row is kept, and writes what is left
-/// of the bytes over `rest`. `known` has the columns of which a piece is kept, and `picks` room for the columns of a line.
-/// Counts each piece and each row that is added.
+/// Removes from a line, and from the bytes `part`, all columns of which a piece or a row is kept, and writes what is left of the
+/// bytes over `rest`. `known` has the columns of which a piece is kept, and `picks` has room for the columns of a line. Counts
+/// each piece and each row that is added.
 pub fn reduce<const W: usize, const B: usize, M: Ledger>(
     columns: &[PackedColumn],
     area: &[u8],
@@ -43,7 +43,7 @@ pub fn reduce<const W: usize, const B: usize, M: Ledger>(
     take_rows(columns, arena, line, picks, rest, sums);
 }
 
-/// Writes over `rest`, which is as long, the sum of `part` and the picked pieces, and counts these.
+/// Writes the sum of `part` and the picked pieces over `rest`, which is as long, and counts the pieces.
 fn sum_counted<M: Ledger>(
     area: &[u8],
     picks: &[u16],
@@ -60,7 +60,7 @@ fn sum_counted<M: Ledger>(
     sums.add(picks.len());
 }
 
-/// Takes out of an equation, which has no column of which a piece is kept, all columns that lead rows, and counts these.
+/// Removes all columns that lead rows from an equation, which has no column of which a piece is kept, and counts the rows.
 fn take_rows<const W: usize, const B: usize, M: Ledger>(
     columns: &[PackedColumn],
     arena: &RowArena<W, B>,
@@ -115,7 +115,7 @@ fn add_counted<M: Ledger>(into: &mut [u8], part: &[u8], sums: &mut Steps<M>)
     sums.tick();
 }
 
-/// Lists the columns of a line of at most 64 words in front of `picks`, and says how many there are.
+/// Lists the columns of a line of at most 64 words in front of `picks`, and returns how many there are.
 fn list_bits(line: &[u64], picks: &mut [u16]) -> usize
     requires few { length line.now ≤ max_line_words }
     requires picks { 64 * length line.now ≤ length picks.old }

@@ -1,4 +1,4 @@
-//! A file that is recovered from whatever fragments of it come.
+//! A file that is recovered from whichever fragments of it come.
 
 ghost use Rattle.std.specs.Prelude.{◌≡◌, ◌+◌, ◌<◌, ◌≤◌, length, is_ok, IfOk};
 ghost use Rattle.row_elimination.specs.HeldSolver.{missing_of, Begins, Feeds};
@@ -35,8 +35,8 @@ pub struct Memory;
 #[error("the storage is too small")]
 pub struct NoRoom;
 
-/// Recovers one file at a time from fragments, in storage that is taken once: `W` words of 64 coefficients (at most
-/// 16,384) and `B` bytes (at most 61,184) for rows, and an area for the pieces. A contract sees what it holds of each
+/// Recovers one file at a time from its fragments (TS004-1.0.0), in storage that is taken once: `W` words of 64 coefficients (at
+/// most 16,384) and `B` bytes (at most 61,184) for rows, and an area for the pieces. A contract sees what it holds of each
 /// column.
 #[derive(Drop)]
 pub struct Solver<const W: usize, const B: usize> {
@@ -44,7 +44,7 @@ pub struct Solver<const W: usize, const B: usize> {
     kept: Box<Kept<W, B>>,
 }
 
-/// What is held, room for one line and its bytes, and where the solver stands.
+/// What is held, room for one line and its bytes, and the solver's stage.
 #[derive(Drop)]
 struct Kept<const W: usize, const B: usize> {
     table: Table<W, B>,
@@ -71,7 +71,7 @@ impl<const W: usize, const B: usize> Model for Solver<W, B> {
 
 impl<const W: usize, const B: usize> Solver<W, B> {
     /// Takes all memory that the solver ever uses: an area of `area` bytes for the pieces, and the storage for rows. Files may
-    /// have up to 4,096 pieces.
+    /// have up to 4,096 pieces. `Memory` comes where there isn't enough.
     pub fn reserve(alloc: Global, area: u32) -> Result<Solver<W, B>, Memory>
         requires words { W ≤ max_words }
         requires bytes { B ≤ max_bytes }
@@ -81,7 +81,8 @@ impl<const W: usize, const B: usize> Solver<W, B> {
         Solver::reserve_for(alloc, area, MAX_PIECES)
     }
 
-    /// The same for files of up to `pieces` pieces (at most 4,096), which takes as much less memory: some 6 bytes a piece.
+    /// Does the same for files of up to `pieces` pieces (at most 4,096), which takes less memory: some 6 bytes less for each
+    /// piece fewer.
     pub fn reserve_for(alloc: Global, area: u32, pieces: u16) -> Result<Solver<W, B>, Memory>
         requires words { W ≤ max_words }
         requires bytes { B ≤ max_bytes }
@@ -115,8 +116,8 @@ impl<const W: usize, const B: usize> Solver<W, B> {
         }
     }
 
-    /// Whether there is room for a file of `nb_frag` pieces (at most 4,096) of `frag_size` bytes (at most 239) and for `rows`
-    /// rows (at most `nb_frag`), and memory for so many pieces.
+    /// Says whether there is room for a file of `nb_frag` pieces (at most 4,096) of `frag_size` bytes (at most 239) and for
+    /// `rows` rows (at most `nb_frag`), and memory for so many pieces.
     pub fn fits(&self, nb_frag: u16, frag_size: u8, rows: u16) -> bool
         requires most { nb_frag ≤ max_pieces }
         requires small { frag_size ≤ max_frag_size }
@@ -128,9 +129,9 @@ impl<const W: usize, const B: usize> Solver<W, B> {
         has_room(W, B, area, most, nb_frag, frag_size, rows)
     }
 
-    /// Begins a file of `nb_frag` pieces (1 to 4,096) of `frag_size` bytes (1 to 239), whose last `padding` bytes (fewer than
-    /// `frag_size`, so that one block alone fits exactly where one file alone does) are no part of it, with `rows` rows for
-    /// coded fragments (at most `nb_frag`). Where there is no room the solver stays as it was.
+    /// Begins a file of `nb_frag` pieces (1 to 4,096) of `frag_size` bytes (1 to 239), with `rows` rows for coded fragments (at
+    /// most `nb_frag`). Its last `padding` bytes are no part of the file; they are fewer than `frag_size`, so that only one block
+    /// fits exactly where only one file does. Where there is no room `NoRoom` comes, and the solver stays as it was.
     pub fn begin(
         &mut self,
         nb_frag: u16,
@@ -147,7 +148,7 @@ impl<const W: usize, const B: usize> Solver<W, B> {
         ensures begins { Begins self.old self.new
             (record { nb_frag = nb_frag; frag_size = frag_size; rows = rows }) result }
     {
-        // the padding matters to who takes the file out, and not here
+        // Only whoever takes the file out needs the padding.
         let _ = padding;
         if !self.fits(nb_frag, frag_size, rows) {
             return Err(NoRoom);
@@ -160,8 +161,8 @@ impl<const W: usize, const B: usize> Solver<W, B> {
         Ok(())
     }
 
-    /// Takes in fragment `n`, from 1 to 8,380 above the number of pieces: piece `n` itself, or the coded fragment of that
-    /// number. `part` has as many bytes as a piece. The solver must be receiving.
+    /// Takes in fragment `n`, from 1 to 8,380 above the number of pieces: piece `n` itself, or the coded fragment of that number.
+    /// `part` has as many bytes as a piece. The solver must be receiving. It takes no memory.
     pub fn feed(&mut self, n: u16, part: &[u8]) -> Fed
         requires receiving { self.old.stage ≡ Stage.Receiving }
         requires first { 1 ≤ n }
@@ -172,8 +173,8 @@ impl<const W: usize, const B: usize> Solver<W, B> {
         take_uncounted::<Solver<W, B>, Brand, Brand>(self, n, part, Blank::new(1), Blank::new(1))
     }
 
-    /// As `feed`, and counts its work: the states of the register that are drawn for the fragment's line, and the sums that
-    /// are made, each the XOR of one part of a piece's length into another.
+    /// Takes in a fragment, as `feed` does, and counts its work: the states of the register that are drawn for the fragment's
+    /// line, and the sums that are made, each the XOR of one part of a piece's length into another.
     pub fn feed_counted<L: Ledger, M: Ledger>(
         &mut self,
         n: u16,
@@ -203,7 +204,7 @@ impl<const W: usize, const B: usize> Solver<W, B> {
         fed
     }
 
-    /// How many pieces are still to be gained, by pieces or by independent coded fragments.
+    /// Returns how many pieces are still to be gained, by pieces or by independent coded fragments.
     #[tactic(auto, unfolding(crate::specs::HeldSolver::missing_of))]
     pub fn missing(&self) -> u16
         ensures { result ≡ missing_of self.now }
@@ -211,14 +212,14 @@ impl<const W: usize, const B: usize> Solver<W, B> {
         self.kept.table.missing()
     }
 
-    /// How many pieces came uncoded.
+    /// Returns how many pieces came uncoded.
     pub fn pieces(&self) -> u16
         ensures { result ≡ pieces_held self.now.places }
     {
         self.kept.table.pieces()
     }
 
-    /// The bytes of all pieces, one after the other, padding included. The solver must be complete.
+    /// Returns the bytes of all pieces, one after the other, padding included. The solver must be complete.
     pub fn block(&self) -> &[u8]
         requires { self.now.stage ≡ Stage.Complete }
         ensures content { result.now ≡ self.now.content }
@@ -246,7 +247,7 @@ impl<const W: usize, const B: usize> Counts for Solver<W, B> {
     }
 }
 
-/// Whether so many rows of a file fit in so many words and bytes, its pieces in the area, and they are no more than `most`.
+/// Says whether so many rows of a file fit in so many words and bytes, its pieces fit the area, and they are at most `most`.
 #[tactic(auto, unfolding(crate::specs::Room::has_room))]
 fn has_room(
     words: usize,
@@ -266,7 +267,7 @@ fn has_room(
     lines <= words && parts <= bytes && pieces <= area && nb_frag <= most
 }
 
-/// Where the solver stands after an answer.
+/// The solver's stage after an answer.
 #[tactic(auto, unfolding(crate::specs::HeldTaking::stage_after))]
 fn stage_after(fed: Fed) -> Stage
     ensures { result ≡ stage_after fed }

@@ -7,20 +7,20 @@ pub enum Stage {
     Idle,
     /// It takes fragments.
     Receiving,
-    /// One block alone fits.
+    /// Only one block fits.
     Complete,
-    /// No block fits, or the rows did not suffice.
+    /// No block fits, or there were too few rows.
     Ended,
 }
 
 /// What a fragment led to.
 #[derive(Clone, Copy, Debug, PartialEq, Eq)]
 pub enum Fed {
-    /// Two different blocks fit: more fragments are wanted.
+    /// Two different blocks fit: more fragments are needed.
     Receiving,
-    /// One block alone fits.
+    /// Only one block fits.
     Complete,
-    /// A block fits, but one independent coded fragment more than there are rows came.
+    /// A block fits, but there was one independent coded fragment more than rows.
     NoRows,
     /// No block fits.
     Conflict,

@@ -27,7 +27,7 @@ use std::sync::ledger::Ledger;
 /// How many words of 64 columns the line of the largest file takes.
 pub const LINE_WORDS: usize = MAX_PIECES as usize / 64;
 
-/// All that is held of a file: a piece, a row or nothing for each of its columns. Rows have `W` words and `B` bytes in all.
+/// All that is held of a file: for each of its columns a piece, a row or nothing. The rows have `W` words and `B` bytes in all.
 #[derive(Drop)]
 pub struct Table<const W: usize, const B: usize> {
     nb_frag: u16,
@@ -35,9 +35,9 @@ pub struct Table<const W: usize, const B: usize> {
     rows: u16,
     count: u16,
     gained: u16,
-    /// A file's columns; its memory is for `most`, as is that of all that goes by columns.
+    /// The file's columns; the memory is for `most` of them, as is that of all that has an item for each column.
     columns: Vec<PackedColumn>,
-    /// Slots, of which those from the `count`-th on are in no use; as many as any file had rows so far.
+    /// Slots; those from the `count`-th on are not in use. There are as many as any file had rows so far.
     spare: Vec<u16>,
     /// The line of the pieces that came uncoded, in as many words as any file needed so far.
     known: Vec<u64>,
@@ -68,7 +68,7 @@ impl<const W: usize, const B: usize> Model for Table<W, B> {
 }
 
 impl<const W: usize, const B: usize> Table<W, B> {
-    /// The table of no file yet, with memory for an area of so many bytes and for so many pieces.
+    /// Makes the table of no file yet, with memory for an area of so many bytes and for so many pieces.
     pub fn new(alloc: Global, area: u32, most: u16) -> Result<Table<W, B>, AllocError>
         requires words { W ≤ max_words }
         requires bytes { B ≤ max_bytes }
@@ -98,35 +98,35 @@ impl<const W: usize, const B: usize> Table<W, B> {
         })
     }
 
-    /// How many bytes the area has room for.
+    /// Returns how many bytes the area has room for.
     pub fn room(&self) -> usize
         ensures { result ≡ self.now.room.area }
     {
         self.room as usize
     }
 
-    /// The most pieces that a file may have.
+    /// Returns the most pieces that a file may have.
     pub fn most(&self) -> u16
         ensures { result ≡ self.now.room.pieces }
     {
         self.most
     }
 
-    /// How many pieces the file has.
+    /// Returns how many pieces the file has.
     pub fn nb_frag(&self) -> u16
         ensures { result ≡ self.now.shape.nb_frag }
     {
         self.nb_frag
     }
 
-    /// How many pieces are still to be gained.
+    /// Returns how many pieces are still to be gained.
     pub fn missing(&self) -> u16
         ensures { result ≡ self.now.shape.nb_frag - gained_held self.now.places }
     {
         self.nb_frag.saturating_sub(self.gained)
     }
 
-    /// How many pieces came uncoded.
+    /// Returns how many pieces came uncoded.
     #[tactic(auto, unfolding(crate::specs::HeldPlaces::gained_held))]
     pub fn pieces(&self) -> u16
         ensures { result ≡ pieces_held self.now.places }
@@ -134,14 +134,14 @@ impl<const W: usize, const B: usize> Table<W, B> {
         self.gained.saturating_sub(self.count)
     }
 
-    /// Whether each slot has a row.
+    /// Says whether each slot has a row.
     pub fn is_full(&self) -> bool
         ensures { result ≡ (rows_held self.now.places == self.now.shape.rows) }
     {
         self.count == self.rows
     }
 
-    /// The bytes of the file's pieces in the area, as far as it reaches.
+    /// Returns the bytes of the file's pieces in the area, as far as it reaches.
     pub fn content(&self) -> &[u8]
         ensures bytes { result.now
             ≡ take (self.now.shape.nb_frag * self.now.shape.frag_size) self.now.area }
@@ -151,7 +151,7 @@ impl<const W: usize, const B: usize> Table<W, B> {
         &self.area[..size.min(self.area.len())]
     }
 
-    /// The piece of column `k`, where it came uncoded.
+    /// Returns the piece of column `k`, where it came uncoded.
     pub fn piece(&self, k: usize) -> Option<&[u8]>
         requires inside { k < self.now.shape.nb_frag }
         ensures value { MatchOption result (is_piece (get_or self.now.places k free) ≡ false)
@@ -166,14 +166,14 @@ impl<const W: usize, const B: usize> Table<W, B> {
         }
     }
 
-    /// Whether no slot has a row.
+    /// Says whether no slot has a row.
     pub fn has_no_rows(&self) -> bool
         ensures { result ≡ (rows_held self.now.places == 0) }
     {
         self.count == 0
     }
 
-    /// How many words of 64 columns a line of the file takes.
+    /// Returns how many words of 64 columns a line of the file takes.
     pub fn width(&self) -> usize
         ensures value { result ≡ words_for self.now.shape.nb_frag }
         ensures few { result ≤ max_line_words }
@@ -181,8 +181,8 @@ impl<const W: usize, const B: usize> Table<W, B> {
         words_for(self.nb_frag)
     }
 
-    /// Takes out of a line, and out of the bytes `part`, all columns of which something is held, and writes what is left of
-    /// the bytes over `rest`. `picks` is room for the columns of a line. Counts each piece and each row that is added.
+    /// Removes from a line, and from the bytes `part`, all columns of which something is held, and writes what is left of the
+    /// bytes over `rest`. `picks` is room for the columns of a line. Counts each piece and each row that is added.
     pub fn reduce<M: Ledger>(
         &self,
         line: &mut [u64],
@@ -213,7 +213,7 @@ impl<const W: usize, const B: usize> Table<W, B> {
         );
     }
 
-    /// Holds nothing any more, and takes fragments of another file.
+    /// Drops all that is held, and takes fragments of another file.
     pub fn begin(&mut self, nb_frag: u16, frag_size: u8, rows: u16)
         requires most { nb_frag ≤ self.old.room.pieces }
         requires few { rows ≤ nb_frag }
@@ -227,7 +227,7 @@ impl<const W: usize, const B: usize> Table<W, B> {
         free_all(&mut self.columns, nb_frag as usize);
         spare_all(&mut self.spare, rows);
         forget(&mut self.known, words_for(nb_frag));
-        // (the rows fit, as is asked for)
+        // (the rows fit, as the contract asks)
         let _ = self.arena.shape(rows, nb_frag, frag_size as u16);
         self.nb_frag = nb_frag;
         self.frag_size = frag_size;

@@ -18,9 +18,9 @@ use parity_lines::Steps;
 use row_arena::first_bit;
 use std::sync::ledger::Ledger;
 
-/// Takes fragment `n` in, or answers why not. A piece that came before is only compared, and where no row is held one that
-/// did not needs no line. `line`, `picks` and `rest` are room for a line, for its columns and for the bytes of a piece.
-/// Counts the states that are drawn for the line, and each piece and row that is added to another part.
+/// Takes fragment `n` in, or answers why not. A piece that came before is only compared; a new piece needs no line while no row
+/// is held. `line`, `picks` and `rest` are room for a line, for its columns and for the bytes of a piece. Counts the states that
+/// are drawn for the line, and each piece and row that is added to another part.
 pub fn take<const W: usize, const B: usize, L: Ledger, M: Ledger>(
     table: &mut Table<W, B>,
     n: u16,
@@ -50,7 +50,7 @@ pub fn take<const W: usize, const B: usize, L: Ledger, M: Ledger>(
     take_in(table, n, part, line, picks, rest, sums)
 }
 
-/// Takes in a piece that came before: it has to be the same.
+/// Takes in a piece that came before: it must be the same.
 fn take_again<const W: usize, const B: usize>(
     table: &Table<W, B>,
     n: u16,
@@ -76,7 +76,7 @@ fn take_first<const W: usize, const B: usize>(table: &mut Table<W, B>, n: u16, p
     decide(table)
 }
 
-/// Takes fragment `n` in, or answers why not. `line` is its line and is used up, `picks` and `rest` are room.
+/// Takes fragment `n` in, or answers why not. `line` is its line and is used up; `picks` and `rest` are room.
 fn take_in<const W: usize, const B: usize, M: Ledger>(
     table: &mut Table<W, B>,
     n: u16,
@@ -160,8 +160,8 @@ fn take_piece<const W: usize, const B: usize, M: Ledger>(
     decide(table)
 }
 
-/// Takes in a coded fragment whose line is no sum of the lines held, where a slot is spare. Its own bytes are told by the
-/// row that is left of it.
+/// Takes in a coded fragment whose line is no sum of the lines held, where a slot is spare. Its own bytes follow from the row
+/// that is left of it.
 fn take_row<const W: usize, const B: usize, M: Ledger>(
     table: &mut Table<W, B>,
     n: u16,
@@ -181,7 +181,7 @@ fn take_row<const W: usize, const B: usize, M: Ledger>(
     decide(table)
 }
 
-/// Whether one block alone fits, and then puts it into the area.
+/// Says whether only one block fits, and then puts it into the area.
 fn decide<const W: usize, const B: usize>(table: &mut Table<W, B>) -> Fed
     requires held { IsReduced table.old.shape.nb_frag table.old.shape.frag_size table.old.places }
     ensures { DecidedAs result table.old table.new }

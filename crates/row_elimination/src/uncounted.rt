@@ -1,4 +1,4 @@
-//! A call that counts its work, for a caller that counts nothing.
+//! A call that counts its work, for callers that count nothing.
 
 ghost use Rattle.std.specs.Prelude.{ℕ, List};
 ghost use Rattle.parity_lines.specs.Counts.{IsBlankOf};
@@ -10,10 +10,10 @@ use std::sync::ledger::{Blank, Ledger};
 
 /// What takes fragments and counts its work.
 pub trait Counts {
-    /// It takes a fragment of this number and part.
+    /// Whether it takes a fragment of this number and part.
     ghost may_take: { Self → ℕ → List ℕ → Type 0 };
 
-    /// What it was and what it has become, by a fragment of this number and part and its answer to that.
+    /// What the fragment of this number and part changes, and the answer to it.
     ghost takes: { Self → Self → ℕ → List ℕ → Fed → Type 0 };
 
     fn take_counted<L: Ledger, M: Ledger>(

@@ -1,4 +1,4 @@
-//! Vectors as long as a file asks, in memory that was taken before.
+//! Vectors as long as a file needs, in memory that was taken before.
 
 ghost use Rattle.std.specs.Prelude.{◌≡◌, ℕ, ◌-◌, ◌<◌, ◌≤◌, ◌++◌, length, get_or, replicate, vec_capacity};
 ghost use Rattle.row_arena.specs.Rows.{line_in};
@@ -6,7 +6,7 @@ ghost use Rattle.row_arena.specs.Rows.{line_in};
 use crate::columns::{Column, PackedColumn};
 use row_arena::clear_bits;
 
-/// Has so many items at least; there is memory for them.
+/// Widens to at least so many items; there is memory for them.
 pub fn widen<T: Copy>(items: &mut Vec<T>, n: usize, new: T)
     requires { n ≤ vec_capacity items.old }
     ensures enough { n ≤ length items.new.items }
@@ -19,7 +19,7 @@ pub fn widen<T: Copy>(items: &mut Vec<T>, n: usize, new: T)
     }
 }
 
-/// Has so many columns, of which nothing is kept; there is memory for them.
+/// Makes so many columns, of which nothing is kept; there is memory for them.
 pub fn free_all(columns: &mut Vec<PackedColumn>, n: usize)
     requires { n ≤ vec_capacity columns.old }
     ensures free { columns.new.items ≡ replicate n Column.Free }
@@ -29,7 +29,7 @@ pub fn free_all(columns: &mut Vec<PackedColumn>, n: usize)
     columns.resize(n, PackedColumn::new(Column::Free)).unwrap();
 }
 
-/// Has so many slots, none of which is in use; there is memory for them.
+/// Makes so many slots, none of which is in use; there is memory for them.
 pub fn spare_all(spare: &mut Vec<u16>, rows: u16)
     requires { rows ≤ vec_capacity spare.old }
     ensures enough { rows ≤ length spare.new.items }
@@ -40,7 +40,7 @@ pub fn spare_all(spare: &mut Vec<u16>, rows: u16)
     count_up(spare, rows);
 }
 
-/// Has so many words at least, and no column in any; there is memory for them.
+/// Makes at least so many words without any column; there is memory for them.
 pub fn forget(known: &mut Vec<u64>, words: usize)
     requires { words ≤ vec_capacity known.old }
     ensures enough { words ≤ length known.new.items }
@@ -51,7 +51,7 @@ pub fn forget(known: &mut Vec<u64>, words: usize)
     clear_bits(known);
 }
 
-/// Writes its own place to each of so many; what lies after them is not used.
+/// Writes its own place to each of so many items; those after them are not used.
 fn count_up(spare: &mut [u16], rows: u16)
     requires { rows ≤ length spare.old }
     ensures { (i : ℕ) → i < rows → get_or spare.new i 0 ≡ i }

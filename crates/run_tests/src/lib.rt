@@ -1,5 +1,5 @@
-//! Tests of `fuota_run`, by what whole runs write and end with, and of `campaign_world` and `pair_run`, by scripts and their reports.
-//! There is no other code here.
+//! Tests of `fuota_run`, by what whole runs write and end with, and of `campaign_world` and `pair_run`, by scripts and their
+//! reports. There is no other code here.
 #![tactic(auto)]
 
 #[cfg(test)]

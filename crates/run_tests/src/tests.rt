@@ -24,8 +24,8 @@ static WORDS: [&str; 4] = ["fuota", "campaign", "image", "script"];
 const USAGE: &str =
     "usage: fuota campaign IMAGE SCRIPT, recover IMAGE SCRIPT DEVICE, replay FILE, decode PORT DIR FILE, generate SEED, capture FILE, campaigns IMAGE IMAGE SCRIPT\n";
 
-/// What stands outside a run: its two files, the second one in two parts, the number of the call that fails on each
-/// side (0 for none), and the room of its sink.
+/// What is outside a run: its two files, the second one in two parts, the number of the call that fails on each side (0 for
+/// none), and the room of its sink.
 #[derive(Clone, Copy)]
 struct Outside<'a, 'b> {
     image: &'a [u8],
@@ -86,7 +86,7 @@ fn failing(rt: &impl Abort, alloc: Global, call: u64) -> Vec<u64> {
     }
 }
 
-/// The two files, and after them an empty one under each word, which is found where the two have other names.
+/// The two files, and after them an empty one under each word, found where the two have other names.
 fn files(rt: &impl Abort, alloc: Global, words: &[&str], outside: &Outside) -> MemFiles {
     let mut files = Vec::new(alloc);
     adds(
@@ -109,7 +109,7 @@ fn files(rt: &impl Abort, alloc: Global, words: &[&str], outside: &Outside) -> M
     MemFiles::new(files, failing(rt, alloc, outside.read_fails))
 }
 
-/// Runs the words, where there are files of all of them.
+/// Runs the words; there are files for all of them.
 fn run_held(
     alloc: Global,
     words: &[String],
@@ -175,7 +175,7 @@ fn ends(
     drop(sink);
 }
 
-/// How a run of the words ends; there are files of all of them.
+/// How a run of the words ends; there are files for all of them.
 fn ended(
     rt: &impl Abort,
     alloc: Global,
@@ -271,7 +271,7 @@ const UPDATE: &str =
 const UPDATED: &str =
     "fuota report 1\nimage 52 fragments 4 size 13 padding 0 parity 4\ndevice 1 updated clock 0 token 0 running 2 next none\ncounts deaf 0 refused 0 full 0 dropped 0\nsession 0 received 4 missing 0 complete at 22 same\nend\n";
 
-/// The numbers of the calls that fail, the room of the sink, and what comes of it.
+/// The numbers of the calls that fail, the room of the sink, and the result.
 static UPDATES: [(u64, u64, u32, Status, &str); 24] = [
     (0, 0, 4096, Status::Done, UPDATED),
     (7, 3, 4096, Status::Done, UPDATED),
@@ -299,7 +299,7 @@ static UPDATES: [(u64, u64, u32, Status, &str); 24] = [
     (6, 0, 5, Status::WriteFault, "read "),
 ];
 
-/// An update in which the call of each side with this number fails; after the last one that comes, none does.
+/// An update in which the call of each side with this number fails; after the last call, none fails.
 #[test]
 fn an_update_says_what_failed(rt: HostRuntime) {
     for (read_fails, write_fails, room, status, text) in &UPDATES {
@@ -512,7 +512,7 @@ fn replays_zeros(rt: &impl Abort, alloc: Global, count: usize, status: Status, t
     }
 }
 
-/// A file is read to its end, or to one byte more than its limit, before a refused line of it is told.
+/// A file is read to its end, or to one byte more than its limit, before a refused line of it is answered.
 #[test]
 fn faults_come_before_a_refused_line(rt: HostRuntime) {
     replays(&rt, rt.alloc(), 0, Status::ScriptRefused, "line 1 syntax\n");

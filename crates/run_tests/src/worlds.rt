@@ -62,7 +62,7 @@ static LINES: [&str; 9] = [
 const REPORT: &str =
     "fuota report 1\nimage 52 fragments 1 size 52 padding 0 parity 0\ndevice 1 fragments clock 0 token 0 running 0 next valid 2\ncounts deaf 0 refused 0 full 0 dropped 0\nsession 0 received 1 missing 0 complete at 11 same\nend\n";
 
-/// Carries out lines form by form, and passes one by.
+/// Carries out lines form by form, and skips one.
 fn carries_out_all(rt: &impl Abort, world: &mut World) {
     for line in &LINES {
         assert!(rt; carries_out(world, line));
@@ -74,7 +74,7 @@ fn carries_out_all(rt: &impl Abort, world: &mut World) {
     assert!(rt; world.lines() == 12 && !world.is_over());
 }
 
-/// A campaign that is carried out form by form, with a line passed by, has the report of its lines, one line further on.
+/// A campaign that is carried out form by form, with a line skipped, has the report of its lines, one line further on.
 #[test]
 fn forms_are_carried_out_as_lines(rt: HostRuntime) {
     let mut world = world(&rt, rt.alloc());
@@ -94,7 +94,7 @@ fn carries_out(world: &mut World, line: &str) -> bool {
     }
 }
 
-/// Passes a line by.
+/// Skips a line.
 fn passes(world: &mut World) {
     if world.lines() < MAX_LINES {
         world.pass();

@@ -1,4 +1,4 @@
--- The receiver that is held in a part: its range, and what it has room for.
+-- The receiver that is held in a part: its range, and its room.
 use Rattle.std.specs.Prelude.{◌≡◌, ℕ, List, Option, Some, Result, OnErr, IfOk, IfErr}
 use Rattle.frag_session.specs.Session.{Session}
 use Rattle.frag_session.specs.Setup.{Room}
@@ -38,12 +38,12 @@ pub record ReceiverServes {T E : Type 0} (receiver_of : T → HeldSession) (h : 
   -- in memory, and in the part
   pub stands : (s : Option Session) → ReceiverStands h s → IfOk result (λ r. ReceiverStands (receiver_of r) (after s))
   pub stored : (s : Option Session) → IsHeldAs h s old → IfOk result (λ r. IsHeldAs (receiver_of r) (after s) new)
-  -- a stop at any moment leaves this alone
+  -- a stop at any moment leaves only this
   pub any_moment : (s : Option Session) → IsHeldAs h s old → LeavesOnly (leaves s (after s)) old new
-  -- and where the part failed a read gives this alone
+  -- and where the part failed a read gives only this
   pub again : (s : Option Session) → IsHeldAs h s old → OnErr result ((b : List ℕ) → new.holds b → leaves s (after s) b)
 
--- It is a receiver still, or its memory is handed back; it fails only where a fault of the part was counted.
+-- It is still a receiver, or its memory is returned; it fails only where a fault of the part was counted.
 pub record ReceiverStays {T : Type 0} (receiver_of : T → HeldSession) (old new : FlashSeen) (result : Result T Extent) : Type 0 where
   pub receiver : IfOk result (λ r. IsReceiver (receiver_of r))
   pub arena : IfErr result (λ arena. arena ≡ extent)

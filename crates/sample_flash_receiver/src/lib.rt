@@ -1,4 +1,4 @@
-//! A sample: a device's receiver of one file at a time (TS004-1.0.0) whose session lies in a flash of the maker's own, so that it
+//! A sample: a device's receiver of one file at a time (TS004-1.0.0) whose session is held in the maker's own flash, so that it
 //! outlasts a stop. It takes files of up to 256 pieces of 48 bytes and keeps 16 rows for coded fragments.
 #![tactic(auto)]
 

@@ -1,4 +1,4 @@
-//! A flash of the maker's own.
+//! The maker's own flash.
 
 ghost use Rattle.std.specs.Prelude.{◌≡◌};
 ghost use Rattle.flash_session.specs.Contents.{HasCause};

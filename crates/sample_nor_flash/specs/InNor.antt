@@ -1,4 +1,4 @@
--- A driver over a part, of whose bytes nothing is told.
+-- A driver over a part; nothing is said of its bytes.
 use Rattle.std.specs.Prelude.{ℕ, ◌^◌, ◌<◌}
 use Rattle.flash_session.specs.Seen.{FlashSeen}
 
@@ -9,7 +9,7 @@ pub record InNor (N : Type 0) : Type 0 where
   pub faults : ℕ
   pub small : size < 2 ^ 32
 
--- no content is told, so of what it holds and of what a stop leaves nothing is said
+-- no content has it, so nothing is said of what it holds and of what a stop leaves
 abbrev pub nor_seen : {N : Type 0} → InNor N → FlashSeen
 nor_seen {N} flash = record {
   holds = λ c. ⊥;

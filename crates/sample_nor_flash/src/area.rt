@@ -13,22 +13,22 @@ pub struct Area {
 }
 
 impl Area {
-    /// Sector `k` of those of header, gates and records.
+    /// Returns sector `k` of those of header, gates and records.
     pub fn sector(&self, k: u32) -> u32 {
         self.first.saturating_add(k)
     }
 
-    /// How many those are.
+    /// Returns how many those are.
     pub fn count(&self) -> u32 {
         FIXED.saturating_add(self.records)
     }
 
-    /// The sector that takes a copy of another.
+    /// Returns the sector that takes a copy of another.
     pub fn spare(&self) -> u32 {
         self.sector(self.count())
     }
 
-    /// The sector of the journal.
+    /// Returns the sector of the journal.
     pub fn journal(&self) -> u32 {
         self.sector(self.count().saturating_add(1))
     }

@@ -1,13 +1,13 @@
-//! Bytes turned, and compared.
+//! Bytes inverted, and compared.
 
 ghost use Rattle.std.specs.Prelude.{◌≡◌, length};
 ghost use Rattle.std.specs.Bool.{OnTrue};
 ghost use Rattle.sample_nor_flash.specs.Cells.{Turns, Falls};
 
-/// What is read at a time, and programmed.
+/// How many bytes are read at a time, and programmed.
 pub const PAGE: usize = 256;
 
-/// Turns each bit.
+/// Inverts each bit.
 pub fn turn(bytes: &mut [u8])
     ensures { Turns bytes.old bytes.new }
 {
@@ -16,7 +16,7 @@ pub fn turn(bytes: &mut [u8])
     }
 }
 
-/// Makes a page the piece, turned.
+/// Makes a page the piece, inverted.
 pub fn turn_into(page: &mut [u8], piece: &[u8])
     requires { length page.old ≡ length piece.now }
     ensures { Turns piece.now page.new }
@@ -25,7 +25,7 @@ pub fn turn_into(page: &mut [u8], piece: &[u8])
     turn(page);
 }
 
-/// Whether `new` has no bit that `old` lacks.
+/// Says whether `new` has no bit that `old` lacks.
 pub fn falls(old: &[u8], new: &[u8]) -> bool
     ensures { OnTrue result (Falls old.now new.now) }
 {
@@ -40,7 +40,7 @@ pub fn falls(old: &[u8], new: &[u8]) -> bool
     true
 }
 
-/// Whether all are 0.
+/// Says whether all are 0.
 pub fn are_zeros(bytes: &[u8]) -> bool {
     bytes.iter().all(|byte| *byte == 0)
 }

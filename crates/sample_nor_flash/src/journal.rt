@@ -1,6 +1,6 @@
-//! A sector is written anew by way of a copy in the spare one. The journal has an entry of four
-//! bytes for each time: two for the sector's number in the range, from 1 on, the lowest byte first;
-//! a mark that is not 0 once the copy is whole and counts; and one that is not 0 once the sector
+//! A sector is rewritten by way of a copy in the spare one. The journal has an entry of four bytes
+//! for each time: two for the sector's number in the range, from 1 on, the lowest byte first; a
+//! mark that is not 0 once the copy is complete and counts; and one that is not 0 once the sector
 //! has it.
 
 ghost use Rattle.std.specs.Prelude.{◌+◌, ◌^◌, ◌<◌, OnOk, IfOk};
@@ -17,7 +17,7 @@ use flash_session::Failed;
 /// How many entries it has.
 const ENTRIES: u32 = SECTOR / 4;
 
-/// A mark that is set, and the label of a header's sector that was written anew: a copy is never
+/// A mark that is set, and the label of a header's sector that was rewritten: a copy is never
 /// blank.
 const SET: u8 = 0xff;
 
@@ -54,7 +54,7 @@ fn look<N: Nor>(part: &mut N, area: Area) -> Result<Found, Failed> {
     Ok(found)
 }
 
-/// Where an entry lies.
+/// Where an entry begins.
 fn entry_at(area: Area, entry: u32) -> u64
     ensures { result < 2 ^ 48 }
 {
@@ -93,7 +93,7 @@ fn copy<N: Nor>(part: &mut N, from: u32, to: u32, offset: u64, piece: &[u8]) -> 
     Ok(())
 }
 
-/// Gives a sector what its copy has, whose entry says that it counts, and closes the entry.
+/// Copies a copy back into its sector, where its entry says that it counts, and closes the entry.
 fn restore<N: Nor>(part: &mut N, area: Area, k: u32, entry: u64) -> Result<(), Failed>
     requires place { entry < 2 ^ 48 }
     requires counts { IsSet (N.holds part.old) (entry + 2) }
@@ -103,8 +103,8 @@ fn restore<N: Nor>(part: &mut N, area: Area, k: u32, entry: u64) -> Result<(), F
     lay_fresh(part, entry + 3, &[SET])
 }
 
-/// What a stop left half done is done: a sector whose copy counts gets it. A blank spare sector is
-/// no copy.
+/// Does what a stop left half done: copies a copy that counts back into its sector. A blank spare
+/// sector is no copy.
 pub fn recover<N: Nor>(part: &mut N, area: Area) -> Result<(), Failed> {
     let found = look(part, area)?;
     if found.open == 0 {
@@ -118,8 +118,8 @@ pub fn recover<N: Nor>(part: &mut N, area: Area) -> Result<(), Failed> {
     lay_fresh(part, entry + 3, &[SET])
 }
 
-/// Where the next entry of the journal lies, once the spare sector is erased. A full journal is
-/// erased after it: whatever a stop leaves of that, no copy counts.
+/// Erases the spare sector, and returns where the next entry of the journal begins. A full journal
+/// is erased after it: whatever a stop leaves of that, no copy counts.
 fn next_entry<N: Nor>(part: &mut N, area: Area) -> Result<u64, Failed>
     ensures { IfOk result (λ entry. entry < 2 ^ 48) }
 {
@@ -132,7 +132,7 @@ fn next_entry<N: Nor>(part: &mut N, area: Area) -> Result<u64, Failed>
     Ok(entry_at(area, 0))
 }
 
-/// Says that the copy of sector `k` counts, which lies whole in the spare sector.
+/// Says that the copy of sector `k`, which is complete in the spare sector, counts.
 fn commit<N: Nor>(part: &mut N, area: Area, k: u32, entry: u64) -> Result<(), Failed>
     requires { entry < 2 ^ 48 }
     ensures { OnOk result (IsSet (N.holds part.new) (entry + 2)) }
@@ -145,7 +145,7 @@ fn commit<N: Nor>(part: &mut N, area: Area, k: u32, entry: u64) -> Result<(), Fa
     lay_fresh(part, entry + 2, &[SET])
 }
 
-/// Writes a sector anew, with the piece over what it has.
+/// Rewrites a sector, with the piece over what it has.
 pub fn write_anew<N: Nor>(
     part: &mut N,
     area: Area,
@@ -159,8 +159,8 @@ pub fn write_anew<N: Nor>(
     restore(part, area, k, entry)
 }
 
-/// Closes a header: its sector is erased, by way of a copy that has nothing but its first byte,
-/// which lies before the range.
+/// Closes a header: erases its sector, by way of a copy that has nothing but its first byte, which
+/// is before the range.
 pub fn close_header<N: Nor>(part: &mut N, area: Area) -> Result<(), Failed> {
     let entry = next_entry(part, area)?;
     lay_fresh(part, start_of(area.spare()), &[SET])?;

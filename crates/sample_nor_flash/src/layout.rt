@@ -1,5 +1,5 @@
-//! Where a range lies in the part: its header at the end of a sector, its gates in six, its records
-//! after them.
+//! Where a range is in the part: its header at the end of a sector, its gates in the next six, its
+//! records after them.
 
 ghost use Rattle.std.specs.Prelude.{◌≡◌, ◌+◌, ◌*◌, ◌≤◌};
 ghost use Rattle.flash_session.specs.Layout.{gates_place, gates_size, records_place};
@@ -7,8 +7,8 @@ ghost use Rattle.flash_session.specs.Layout.{gates_place, gates_size, records_pl
 /// Bytes that an erase sets to ff.
 pub const SECTOR: u32 = 4096;
 
-/// Where a range begins in its first sector: with the 64 bytes of its header, and its gates in the
-/// next sector.
+/// Where a range begins in its first sector, which has the 64 bytes of its header; its gates begin
+/// in the next sector.
 pub const FIRST: u32 = 4032;
 
 /// The gates of records and of tallies, counted from the range's first byte.
@@ -31,8 +31,8 @@ pub fn parts_fill_sectors()
     ensures same { (GATES ≡ gates_place) × (GATES_SIZE ≡ gates_size) × (RECORDS ≡ records_place) }
 {}
 
-/// The sectors of a range of `span` bytes: those of its header, gates and records, a spare one, and
-/// the journal's.
+/// Returns the sectors of a range of `span` bytes: those of its header, gates and records, a spare
+/// one, and the journal's.
 pub fn sectors_of(span: u32) -> u32
     ensures { 9 ≤ result }
 {

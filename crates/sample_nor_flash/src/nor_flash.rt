@@ -12,14 +12,14 @@ use crate::sectors::{fetch, lay, start_of, wipe};
 use flash_session::{Failed, Flash};
 use std::marker::Model;
 
-/// Ranges of equal length, one after the other, each in sectors of its own.
+/// Ranges of equal length, one after the other, each in its own sectors.
 #[derive(Drop)]
 pub struct NorFlash<N: Nor + Drop> {
     part: N,
     ranges: Ranges,
-    /// No call failed since what a stop left half done was done.
+    /// No call has failed since the last repair of what a stop left half done.
     sound: bool,
-    /// How many calls failed; it stops at the type's end.
+    /// How many calls failed; the count stops at the type's end.
     failed: u64,
     ghost small: { ranges.size < 2 ^ 32 },
 }
@@ -45,9 +45,9 @@ impl<N: Nor + Drop> Model for NorFlash<N> {
 }
 
 impl<N: Nor + Drop> NorFlash<N> {
-    /// So many ranges of `span` bytes, one after the other, in the sectors of the part from its
-    /// first on, of which each takes `sectors_of(span)`. None where a range is shorter than 24,640
-    /// bytes or has more than 65,535 sectors, or the part has not as many.
+    /// Makes so many ranges of `span` bytes, one after the other, in the sectors of the part from
+    /// its first on; each takes `sectors_of(span)`. None where a range is shorter than 24,640 bytes
+    /// or has more than 65,535 sectors, or the part has too few.
     pub fn over(part: N, span: u32, ranges: u32) -> Option<Self>
         ensures made { IfSome result (λ f. (f.part ≡ part) × (f.size ≡ span * ranges)) }
         ensures faults { IfSome result (λ f. f.faults ≡ 0) }
@@ -65,14 +65,14 @@ impl<N: Nor + Drop> NorFlash<N> {
         })
     }
 
-    /// The part.
+    /// Returns the part, borrowed.
     pub fn part(&self) -> &N
         ensures { result.now ≡ self.now.part }
     {
         &self.part
     }
 
-    /// The part back.
+    /// Returns the part.
     pub fn inner(self) -> N
         ensures { result ≡ self.part }
     {
@@ -80,8 +80,8 @@ impl<N: Nor + Drop> NorFlash<N> {
     }
 }
 
-/// The sectors of the range that has a place, and the place counted from the first of them. None
-/// where so many bytes from there are not in one range.
+/// The range of a place, and the place counted from its first sector. None where so many bytes from
+/// there are not in one range.
 fn place_of(span: u32, at: u32, len: usize) -> Option<(Area, u64)> {
     let range = at.checked_div(span)?;
     let place = at - range * span;
@@ -96,8 +96,8 @@ fn place_of(span: u32, at: u32, len: usize) -> Option<(Area, u64)> {
     Some((area, FIRST as u64 + place as u64))
 }
 
-/// Lays a piece of one page, and writes its sector anew where a bit has to rise for it. A header
-/// that is closed loses the setup after it, which nothing reads then.
+/// Writes a piece of one page, and rewrites its sector where a bit has to be set for it. A closed
+/// header loses the setup after it, which is then not read.
 fn put_page<N: Nor>(part: &mut N, area: Area, at: u64, piece: &[u8]) -> Result<(), Failed> {
     if piece.len() > PAGE {
         return Err(Failed);
@@ -132,7 +132,7 @@ fn put<N: Nor>(part: &mut N, area: Area, at: u64, piece: &[u8]) -> Result<(), Fa
     Ok(())
 }
 
-/// Erases the gates, and the records with them: after gates that are closed nothing reads them.
+/// Erases the gates, and the records with them: no record is read after gates that are closed.
 fn clear<N: Nor>(part: &mut N, area: Area) -> Result<(), Failed> {
     for k in 1..area.count() {
         wipe(part, area.sector(k))?;
@@ -184,7 +184,7 @@ fn recover_all<N: Nor>(part: &mut N, ranges: Ranges) -> Result<(), Failed> {
     Ok(())
 }
 
-/// After a start, and after a call that failed: what is half done is done first.
+/// Does what is half done, after a start and after a call that failed.
 fn settle<N: Nor>(part: &mut N, ranges: Ranges, sound: &mut bool) -> Result<(), Failed> {
     if !*sound {
         recover_all(part, ranges)?;
@@ -221,7 +221,7 @@ fn write_bytes<N: Nor>(
     put(part, area, place, piece)
 }
 
-/// A failure is counted, and what it left half done is done at the next call.
+/// Counts a failure; what it left half done is done at the next call.
 fn counted(done: Result<(), Failed>, failed: &mut u64, sound: &mut bool) -> Result<(), Failed>
     ensures { HasCause failed.old failed.new result }
 {

@@ -1,4 +1,4 @@
-//! Bytes of the part, turned, by their places; a place beyond it fails.
+//! Bytes of the part, inverted, by their places; a place outside of it fails.
 
 ghost use Rattle.std.specs.Prelude.{◌≡◌, ℕ, ◌+◌, ◌*◌, ◌≤◌, List, length, OnOk, IfOk, IfSome};
 ghost use Rattle.std.specs.Bool.{OnTrue};
@@ -10,7 +10,7 @@ use crate::layout::SECTOR;
 use crate::nor::Nor;
 use flash_session::Failed;
 
-/// Where the bytes of a sector begin.
+/// Returns where the bytes of a sector begin.
 pub fn start_of(sector: u32) -> u64
     ensures { result ≡ 4096 * sector }
 {
@@ -28,7 +28,7 @@ fn inside<N: Nor>(part: &N, at: u64, len: usize) -> Option<u32>
     Some(at as u32)
 }
 
-/// Reads the bytes from a place on, turned.
+/// Reads the bytes from a place on, inverted.
 pub fn fetch<N: Nor>(part: &mut N, at: u64, buf: &mut [u8]) -> Result<(), Failed>
     ensures told { OnOk result (GivesTurned (N.holds part.new) at buf.new) }
     ensures stays { (c : List ℕ) → N.holds part.new c → N.holds part.old c }
@@ -41,8 +41,8 @@ pub fn fetch<N: Nor>(part: &mut N, at: u64, buf: &mut [u8]) -> Result<(), Failed
     Ok(())
 }
 
-/// Lays a piece of at most 256 bytes, turned, where no bit has to rise for it. Else false, and
-/// nothing is written.
+/// Writes a piece of at most 256 bytes, inverted, where no bit has to be set for it; else returns
+/// false, and nothing is written.
 pub fn lay<N: Nor>(part: &mut N, at: u64, piece: &[u8]) -> Result<bool, Failed>
     requires { length piece.now ≤ 256 }
     ensures laid { IfOk result (λ done. OnTrue done
@@ -66,7 +66,7 @@ pub fn lay<N: Nor>(part: &mut N, at: u64, piece: &[u8]) -> Result<bool, Failed>
     Ok(true)
 }
 
-/// Lays a piece where no bit can have to rise; it fails where one has to.
+/// Writes a piece where no bit can have to be set; it fails where one has to.
 pub fn lay_fresh<N: Nor>(part: &mut N, at: u64, piece: &[u8]) -> Result<(), Failed>
     requires { length piece.now ≤ 256 }
     ensures { OnOk result
@@ -78,7 +78,7 @@ pub fn lay_fresh<N: Nor>(part: &mut N, at: u64, piece: &[u8]) -> Result<(), Fail
     Err(Failed)
 }
 
-/// Whether a sector reads as erased.
+/// Says whether a sector reads as erased.
 pub fn is_blank<N: Nor>(part: &mut N, sector: u32) -> Result<bool, Failed>
     ensures { (c : List ℕ) → N.holds part.new c → N.holds part.old c }
 {

@@ -1,4 +1,4 @@
--- What a payload that is no fragment makes of a receiver, and which file a view shows.
+-- What a payload that is no fragment does to a receiver, and which file a view shows.
 use Rattle.std.proofs.Common.{◌≡◌, ◌≢◌, ℕ, List, length, Option, Some, None, refl, sym, subst}
 use Rattle.wire_base.specs.declared.refusal.Direction.TheVariants.{Down}
 use Rattle.cast_wire.specs.declared.cmd.Cmd.TheVariants.{DataFragment}

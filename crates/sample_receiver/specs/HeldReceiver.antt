@@ -1,4 +1,4 @@
--- What the calls of the receiver do, said of the session that its slot stands for: its setup and all that it heard since.
+-- What the calls of the receiver do to the session that its slot stands for: its setup and all that it heard since.
 use Rattle.std.specs.Prelude.{◌≡◌, ℕ, List, length, Option, Some, None}
 use Rattle.wire_base.specs.declared.refusal.Direction.TheVariants.{Down}
 use Rattle.cast_wire.specs.declared.cmd.Cmd.TheVariants.{DataFragment}
@@ -31,7 +31,7 @@ pub record ReceiverStands (slot : HeldSlot) (s : Option Session) : Type 0 where
   pub extent_is : extent_of slot ≡ extent
   pub stands : Stands slot s
 
--- a setup is answered with all its refusal bits, and without one its session lives
+-- a setup is answered with all its refusal bits, and without one there is its session
 abbrev pub SetsUp : (old new : HeldSlot) → SetupReq → (bits : ℕ) → Type 0
 SetsUp old new req bits = (s : Option Session) → ReceiverStands old s
     → (bits ≡ setup_bits limits room req) × ReceiverStands new (after_setup limits room s req)
@@ -46,7 +46,7 @@ pub record Hears (old new : HeldSlot) (payload : List ℕ) (mark : ℕ) : Type 0
       → ReceiverStands old s → ReceiverStands new (after_fragment s Unicast n part mark)
   pub other : ((n : ℕ) (part : List ℕ) → ¬ IsFragment payload n part) → new ≡ old
 
--- the file, where one alone fits what was heard
+-- the file, where only one fits what was heard
 abbrev pub file_by : Verdict → List ℕ → Option (List ℕ)
 file_by (verdict.Complete mark) file = Some file
 file_by verdict.Receiving file = None

@@ -1,5 +1,5 @@
-//! A sample: a device's receiver of one file at a time (TS004-1.0.0), in memory that is taken once. It takes files of up to
-//! 256 pieces of 48 bytes and keeps 16 rows for coded fragments, so that up to 16 lost pieces can be made good.
+//! A sample: a device's receiver of one file at a time (TS004-1.0.0), in memory that is taken once. It takes files of up to 256
+//! pieces of 48 bytes and keeps 16 rows for coded fragments, so that it can recover up to 16 lost pieces.
 #![tactic(auto)]
 
 ghost use Rattle.std.specs.Prelude.{◌≡◌, ◌≤◌, Option, None, length, IfOk, option_map};

@@ -1,5 +1,5 @@
-//! A sample: the sending end of a file (TS004-1.0.0), from its bytes to the payloads of port 201 that carry it. When they are
-//! sent, and to whom, is left to the caller.
+//! A sample: the sending end of a file (TS004-1.0.0), from its bytes to the payloads of port 201. When they are sent, and to
+//! whom, is left to the caller.
 #![tactic(auto)]
 
 ghost use Rattle.std.specs.Prelude.{◌≡◌, ◌↔◌, ◌+◌, ◌≤◌, length, Err, IfOk, IsSome, IfSome};

@@ -1,5 +1,5 @@
-//! A sample: a campaign as a network server drives it, from the plan to the ledger (TS004, TS005 and TS006, 1.0.0). What goes
-//! into a queue, and what an uplink makes of it. When anything is sent, duty cycles and FPending are left to the operator.
+//! A sample: a campaign as a network server runs it, from the plan to the ledger (TS004, TS005 and TS006, 1.0.0): what goes into
+//! a queue, and what an uplink changes. When anything is sent, duty cycles and FPending are left to the operator.
 #![tactic(auto)]
 
 ghost use Rattle.std.specs.Prelude.{◌≡◌, ◌≤◌, ◌<◌, ◌↔◌, true, false, length, Some, Ok, Err, IfOk};

@@ -86,7 +86,7 @@ ends_line old items kept piece ended end is hold found stream stands =
       );
     })
 
--- a piece of which no line is wanted, without a line feed
+-- a piece whose lines are not kept, without a line feed
 pub passes_on : (old : HeldLines) (items kept piece : List ℕ) (ended : Bool) → old ≡ held_as items ended → kept ≡ cut (open_in items ended ++ piece)
     → All (λ b. is_feed b ≡ false) piece → (stream : List ℕ) → LinesStand old stream → kept ≡ cut (open_of (stream ++ piece))
 passes_on old items kept piece ended is hold none stream stands =
@@ -121,7 +121,7 @@ ends old items kept ended result is hold tells stream stands = by_last (last_ope
     by_last (inr some) false tell =
         absurd (let t = tell.1 (λ empty. omega (arith, ap length (sym here ∙ empty), length-take 601 (open_of stream), some.0)) in cc)
 
--- where it is told by the length whether bytes are held
+-- the length says whether bytes are held
 pub told : (kept : List ℕ) (empty : Bool) → empty ≡ eqb (length kept) 0 → ((not empty ≡ true → kept ≢ []) × (kept ≢ [] → not empty ≡ true))
 told [] empty tell = rw tell (λ is. absurd cc, λ some. absurd (some refl))
 told (b ∷ bs) empty tell = let some : eqb (length (b ∷ bs)) 0 ≡ false = grind arith in rw (tell, some) (λ is none. absurd cc, λ some. refl)

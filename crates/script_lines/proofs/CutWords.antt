@@ -27,7 +27,7 @@ digits_in (x ∷ y ∷ ys) h = by_test (is_ascii_digit x) (eqb x 48) (list_all i
     by_test true false v h = h
     by_test false u v h = absurd cc
 
--- digits at the front are a decimal, but for a leading zero
+-- digits at the front are a decimal, except for a leading zero
 pub decimal_front : (bytes : List ℕ) (end : ℕ) → end ≤ length bytes → list_all is_ascii_digit (take end bytes) ≡ true → 0 < end → (1 < end → get_or bytes 0 0 ≢ 48) → is_decimal (take end bytes) ≡ true
 decimal_front bytes zero within digits some lead = absurd (omega arith)
 decimal_front [] (suc end) within digits some lead = absurd (omega arith)

@@ -28,7 +28,7 @@ behind_raw : (rest : List ℕ) → words_of (codes "raw " ++ rest) ≡ codes "ra
 unfolding words_of
 behind_raw rest = refl
 
--- ---- the form of its keyword alone
+-- ---- the form of only its keyword
 
 pub frag_line : (rest : List ℕ) → length rest ≡ 0 → form_of (codes "frag" ++ rest) ≡ Some Frag
 unfolding form_of words_of word

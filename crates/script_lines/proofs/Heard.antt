@@ -34,7 +34,7 @@ heard_line Step first now next old new stream bytes line so_far on told step = r
   heard = hears_line Step (ended_of stream) (ended_of (stream ++ bytes)) on.lines.0 line new.line first now next so_far.heard on.lines.1 on.lines.2 told step;
 }
 
--- a line that is handed out where it lies
+-- a line that is given without a copy
 pub heard_whole : {W : Type 0} (Step : W → List ℕ → W → Type 0) (first now next : W) (held : HeldLines) (stream piece : List ℕ) (end : ℕ)
     → HasHeard Step first held now stream → IsWholeLine held piece end → Step now (take end piece) next → HasHeard Step first held next (stream ++ take (end + 1) piece)
 heard_whole Step first now next held stream piece end so_far whole step =

@@ -95,7 +95,7 @@ ended_more stream bytes =
 no_feed : All (λ b. is_feed b ≡ false) []
 no_feed = All-from_get_or (λ b. is_feed b ≡ false) [] 0 (λ i below. absurd (omega (arith, below)))
 
--- after the last line feed the open line begins anew
+-- after the last line feed a new line is open
 pub open_behind : (stream before rest : List ℕ) → All (λ b. is_feed b ≡ false) rest → open_of (stream ++ (before ++ (10 ∷ rest))) ≡ rest
 open_behind stream before rest none =
     let anew = (now_ended (stream ++ before) [] no_feed).1 in

@@ -1,4 +1,4 @@
--- The form that a line spells (this project's profile): its first word says which, and so many words stand after it.
+-- The form that a line spells (this project's profile): its first word says which, and so many words follow.
 use Rattle.std.specs.Prelude.{ℕ, ◌+◌, ◌-◌, Bool, true, false, ◌&&◌, ◌==◌, nat_lt, if◌then◌else◌, List, length, codes, Option, Some, None}
 use Rattle.script_lines.specs.declared.forms.Class.{Class}
 use Rattle.script_lines.specs.declared.forms.Class.TheVariants as class
@@ -32,7 +32,7 @@ class_at line k =
     else if is_word line k (codes "c") then Some class.C
     else None
 
--- a form of its keyword alone
+-- a form of only its keyword
 abbrev pub alone : (line : List ℕ) → Form → Option Form
 alone line form = if count_of line == 1 then Some form else None
 
@@ -89,7 +89,7 @@ window_b_words line k = do
   dr ← decimal_at line (k + 4)
   Some (WindowB start periodicity timeout freq dr)
 
--- the letter of the class stands at a place
+-- the letter of the class is at a place
 abbrev pub window_from : List ℕ → (k : ℕ) → Option Form
 window_from line k =
     if count_of line == k + 5 && is_word line k (codes "c") then window_c_words line (k + 1)
@@ -99,8 +99,8 @@ window_from line k =
 abbrev pub window_form : List ℕ → Option Form
 window_form line = window_from line 1
 
--- device ID CLASS HW ROWS OFFSET KEY, with DESCRIPTOR after it or none; and whether v1 stands after that, then k11, and flash
--- at the end; CLASS stands at a place
+-- device ID CLASS HW ROWS OFFSET KEY, with DESCRIPTOR after it or none; and whether v1 comes after that, then k11, and flash at
+-- the end; CLASS is at a place
 abbrev pub device_words : List ℕ → (k : ℕ) → Option ℕ → (v1 k11 flash : Bool) → Option Form
 device_words line k descriptor v1 k11 flash = do
   id ← decimal_at line 1

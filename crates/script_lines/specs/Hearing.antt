@@ -9,7 +9,7 @@ unfoldable pub HearsAll : {W : Type 0} → (W → List ℕ → W → Type 0) →
 HearsAll Step old [] new = new ≡ old
 HearsAll {W} Step old (line ∷ lines) new = (next : W) × Step old line next × HearsAll Step next lines new
 
--- of a stream so far: the open line is held, and the consumer has heard the lines that ended, since it was in its first state
+-- for a stream so far: the open line is held, and the consumer has heard the lines that ended, since it was in its first state
 pub record HasHeard {W : Type 0} (Step : W → List ℕ → W → Type 0) (first : W) (held : HeldLines) (now : W) (stream : List ℕ) : Type 0 where
   pub stands : LinesStand held stream
   pub heard : HearsAll Step first (cut_lines (ended_of stream)) now

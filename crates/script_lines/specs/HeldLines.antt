@@ -1,4 +1,4 @@
--- What is kept of a stream between its pieces, and what a piece makes of it.
+-- What is kept of a stream between its pieces, and how a piece changes it.
 use Rattle.std.specs.Prelude.{◌≡◌, ◌<◌, ◌≤◌, ℕ, ◌+◌, Bool, true, false, List, [], ◌∷◌, ◌++◌, All, length, drop, get_or, position, Option, Some, None}
 use Rattle.script_lines.specs.declared.pieces.Cut.{Cut}
 use Rattle.script_lines.specs.declared.pieces.Cut.TheVariants.{More, Line}
@@ -11,7 +11,7 @@ pub record HeldLines : Type 0 where
   pub open_line : List ℕ
   pub line : Option (List ℕ)
 
--- it stands for every stream whose stretch after its last line feed is the open line, once cut
+-- it stands for every stream whose part after its last line feed is the open line, once cut
 abbrev pub LinesStand : HeldLines → List ℕ → Type 0
 LinesStand held stream = held.open_line ≡ cut (open_of stream)
 
@@ -23,7 +23,7 @@ used_by piece (Some feed) = (feed + 1, Line)
 abbrev pub used_of : List ℕ → ℕ × Cut
 used_of piece = used_by piece (position is_feed piece)
 
--- no line ended between the streams; or one did, and it is handed out
+-- no line ended between the streams; or one did, and it is given
 abbrev pub Ended : (old new : List ℕ) → HeldLines → Cut → Type 0
 Ended old new held More = ended_of new ≡ ended_of old
 Ended old new held Line = (line : List ℕ) × (ended_of new ≡ ended_of old ++ line ∷ []) × (held.line ≡ Some (cut line))
@@ -33,7 +33,7 @@ pub record GoesOn (old new : HeldLines) (bytes : List ℕ) (answer : Cut) (strea
   pub stands : LinesStand new (stream ++ bytes)
   pub lines : Ended stream (stream ++ bytes) new answer
 
--- the stream is at its end: its last line had no line feed, and is handed out; or there is no such line
+-- the stream is at its end: its last line had no line feed, and is given; or there is no such line
 abbrev pub Ends : HeldLines → List ℕ → Bool → Type 0
 Ends held stream true = (line : List ℕ) × (lines_of stream ≡ ended_of stream ++ line ∷ []) × (held.line ≡ Some (cut line))
 Ends held stream false = lines_of stream ≡ ended_of stream
@@ -50,13 +50,13 @@ line_in bytes true = Some bytes
 abbrev pub held_as : List ℕ → Bool → HeldLines
 held_as bytes ended = record { open_line = open_in bytes ended; line = line_in bytes ended }
 
--- the last line feed is at this place: there is one, and none after it
+-- the last line feed is at this place
 pub record IsLastFeed (piece : List ℕ) (end : ℕ) : Type 0 where
   pub inside : end < length piece
   pub feed : is_feed (get_or piece end 0) ≡ true
   pub none : All (λ b. is_feed b ≡ false) (drop (end + 1) piece)
 
--- a line of a piece that begins where no line is open ends at this place, and all of it is handed out
+-- a line of a piece that begins where no line is open ends at this place, and all of it is given
 pub record IsWholeLine (held : HeldLines) (piece : List ℕ) (end : ℕ) : Type 0 where
   pub fresh : held.open_line ≡ []
   pub feed : position is_feed piece ≡ Some end

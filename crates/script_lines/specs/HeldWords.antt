@@ -1,4 +1,4 @@
--- What is known of the words of a line of which a part is read.
+-- What is known of the words of a line of which a part was read.
 use Rattle.std.specs.Prelude.{◌≡◌, ℕ, List, [], ◌∷◌, ◌++◌, codes, Option, Some, None}
 use Rattle.script_lines.specs.Lines.{words_of}
 use Rattle.script_lines.specs.Numbers.{decimal_of}
@@ -32,7 +32,7 @@ pub record IsForm (line : List ℕ) (form : Form) : Type 0 where
   pub one : form_of line ≡ Some form
   pub two : pair_form_of line ≡ of_none (Some form)
 
--- what comes of a decimal that is the last word of its line, by the keyword before it
+-- the form of a line whose last word is this decimal, by the keyword before it
 pub record DecimalLast (rest : List ℕ) (n : ℕ) : Type 0 where
   pub decimal : decimal_of rest ≡ Some n
   pub up : form_of (codes "up " ++ rest) ≡ Some (Up n)

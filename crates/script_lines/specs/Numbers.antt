@@ -26,7 +26,7 @@ abbrev pub read_part : {A E : Type 0} → Result A E → Option A
 read_part (Ok x) = Some x
 read_part (Err e) = None
 
--- what comes of what was read, where there is something
+-- a function of what was read, where there is something
 infixr 5 ◌>>=◌
 abbrev pub ◌>>=◌ : {A B : Type 0} → Option A → (A → Option B) → Option B
 None >>= f = None

@@ -1,5 +1,5 @@
--- The form that a line of two campaigns' script spells (this project's profile): the letter of a campaign apart, it is the
--- form that a line of one campaign has.
+-- The form that a line of two campaigns' script spells (this project's profile): without the letter of a campaign, it is the form
+-- of a line of one campaign.
 use Rattle.std.specs.Prelude.{ℕ, ◌&&◌, ◌==◌, if◌then◌else◌, List, [], ◌∷◌, codes, Option, Some, None}
 use Rattle.script_lines.specs.declared.forms.Campaign.{Campaign}
 use Rattle.script_lines.specs.declared.forms.Campaign.TheVariants as campaign
@@ -28,7 +28,7 @@ abbrev pub number_behind : (word : List ℕ) → Option ℕ
 number_behind [] = None
 number_behind (letter ∷ digits) = decimal_of digits
 
--- the form that a line has for no campaign alone, or for the one that it names
+-- the form that a line has for no campaign by itself, or for the one that it names
 abbrev pub of_none : Option Form → Option PairForm
 of_none form = form >>= (λ f. Some (record { campaign = None; form = f }))
 
@@ -64,7 +64,7 @@ pair_down line = down_of line (number_behind (word line 1))
 abbrev pub pair_up : List ℕ → Option Form
 pair_up line = if count_of line == 2 then number_behind (word line 1) >>= (λ number. Some (Up number)) else None
 
--- ---- the form that a line spells, if any: window X .. and device N X .. have the letter and then what those of one campaign have
+-- ---- the form that a line spells, if any: window X .. and device N X .. have the letter, then what those of one campaign have
 
 -- of a campaign that the line names, and the end
 abbrev pub pair_sent_form : List ℕ → Option PairForm

@@ -22,7 +22,7 @@ ended_of stream = front (slice_split is_feed stream)
 unfoldable pub open_of : List ℕ → List ℕ
 open_of stream = last (slice_split is_feed stream)
 
--- a line as it is handed out: of one that is too long, one byte more than a line may have
+-- a line as it is given: of one that is too long, one byte more than a line may have
 abbrev pub cut : List ℕ → List ℕ
 cut line = take (max_line + 1) line
 

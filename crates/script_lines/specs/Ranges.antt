@@ -1,4 +1,4 @@
--- The ranges of a form's numbers, but for what depends on the image or on the lines before (this project's profile).
+-- The ranges of a form's numbers, except for what depends on the image or on the lines before (this project's profile).
 use Rattle.std.specs.Prelude.{ℕ, ◌^◌, Bool, true, ◌&&◌, nat_le, nat_lt}
 use Rattle.script_lines.specs.declared.forms.Form.{Form}
 use Rattle.script_lines.specs.declared.forms.Form.TheVariants.{Image, Group, WindowC, WindowB, Device, At, Down, Raw, Air, RawAir}

@@ -95,7 +95,7 @@ pub record AreNone : Type 0 where
   pub odd_hex : form_of (codes "raw 7 201 080") ≡ None
   pub no_hex : form_of (codes "raw 7 201 08g1") ≡ None
   pub raw_without_payload : form_of (codes "raw 7 201") ≡ None
-  -- nothing is spelled as `-` alone
+  -- only `-` spells nothing
   pub empty_hex : form_of (codes "raw 7 201 ") ≡ None
   pub empty_hex_before_word : form_of (codes "raw 7 201  12") ≡ None
   pub two_dashes : form_of (codes "raw 7 201 --") ≡ None
@@ -121,7 +121,7 @@ pub record AreNone : Type 0 where
   pub frag_more : form_of (codes "frag 1") ≡ None
   pub status_more : form_of (codes "status 1") ≡ None
   pub end_more : form_of (codes "end 1") ≡ None
-  -- a key has 32 digits, an address 8, and what is a number has digits alone
+  -- a key has 32 digits, an address 8, and a number has only digits
   pub long_key : form_of (codes "group 11223344 0000000000000000000000000000000000 0 10") ≡ None
   pub long_address : form_of (codes "group 1122334455 00000000000000000000000000000000 0 10") ≡ None
   pub capital_class : form_of (codes "device 1 A 2 3 4 00000000000000000000000000000000") ≡ None

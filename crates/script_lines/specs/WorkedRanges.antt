@@ -83,7 +83,7 @@ pub record AreRanges : Type 0 where
   pub air_word_beyond : in_range (Air 1 1 (2 ^ 32)) ≡ false
   pub last_raw_air_word : in_range (RawAir 1 [] (2 ^ 32 - 1)) ≡ true
   pub raw_air_word_beyond : in_range (RawAir 1 [] (2 ^ 32)) ≡ false
-  -- which device, payload or uplink a line names is looked at elsewhere, and a keyword alone has no number
+  -- which device, payload or uplink a line names is looked at elsewhere, and a keyword by itself has no number
   pub header : in_range Header ≡ true
   pub any_wake : in_range (Wake (2 ^ 64 - 1)) ≡ true
   pub any_migrate : in_range (Migrate (2 ^ 64 - 1)) ≡ true
@@ -102,7 +102,7 @@ pub record AreLimits : Type 0 where
   -- lines of a script, and devices in flash
   pub lines : max_lines ≡ 20000
   pub flash_devices : max_flash_devices ≡ 4
-  -- a line of 600 bytes is handed out whole, of a longer one 601 bytes
+  -- a line of 600 bytes is given whole, of a longer one 601 bytes
   pub longest : length (cut (replicate 600 65)) ≡ 600
   pub longer : length (cut (replicate 602 65)) ≡ 601
   -- a word spells at most 300 bytes in hex

@@ -1,5 +1,5 @@
-//! Lines of the kinds that come by the thousand, each read without counting its words. None, or false, says nothing:
-//! the line is then read word by word.
+//! Lines of the kinds that come by the thousand, each read without counting its words. At None or false the line is read word by
+//! word instead.
 
 ghost use Rattle.std.specs.Prelude.{◌≡◌, ◌≤◌, ◌++◌, ◌^◌, Some, IfSome, IsTrue, codes, length, take};
 ghost use Rattle.script_lines.specs.Numbers.{decimal_of, hex_bytes_of};
@@ -11,14 +11,14 @@ ghost use Rattle.script_lines.specs.HeldWords.{DecimalFirst, DecimalLast, WordLa
 use crate::hex_bytes::HexBytes;
 use crate::words::first_space;
 
-/// A decimal at the front of bytes, and where it ends.
+/// A decimal at the front of bytes, and the place where it ends.
 #[derive(Clone, Copy)]
 struct Leading {
     number: u64,
     end: usize,
 }
 
-/// A decimal with a space after it at the front of bytes, and what stands after that.
+/// A decimal and a space at the front of bytes, and what follows.
 #[derive(Clone, Copy)]
 struct Spaced<'a> {
     number: u64,
@@ -44,9 +44,9 @@ struct DecimalTail {
 /// The numbers of a line `down S D [WORD]` or `air S D [WORD]`.
 #[derive(Clone, Copy)]
 pub struct DownNumbers {
-    /// S
+    /// S.
     pub number: u64,
-    /// D
+    /// D.
     pub device: u64,
     /// WORD, 0 where it is left out.
     pub random: u64,
@@ -55,11 +55,11 @@ pub struct DownNumbers {
 /// The parts of a line `raw D PORT HEX [WORD]`.
 #[derive(Drop)]
 pub struct RawParts<'a> {
-    /// D
+    /// D.
     pub device: u64,
-    /// PORT
+    /// PORT.
     pub port: u64,
-    /// HEX
+    /// HEX.
     pub payload: HexBytes<'a>,
     /// WORD, 0 where it is left out.
     pub random: u64,
@@ -68,15 +68,15 @@ pub struct RawParts<'a> {
 /// The parts of a line `rawair D HEX [WORD]`.
 #[derive(Drop)]
 pub struct RawAirParts<'a> {
-    /// D
+    /// D.
     pub device: u64,
-    /// HEX
+    /// HEX.
     pub bytes: HexBytes<'a>,
     /// WORD, 0 where it is left out.
     pub random: u64,
 }
 
-/// The numbers of a line `down S D [WORD]`.
+/// Reads the numbers of a line `down S D [WORD]`.
 pub fn down_numbers(line: &[u8]) -> Option<DownNumbers>
     ensures { IfSome result (λ n. form_of line.now ≡ Some (Down n.number n.device n.random)) }
 {
@@ -86,7 +86,7 @@ pub fn down_numbers(line: &[u8]) -> Option<DownNumbers>
     }
 }
 
-/// The numbers of a line `air S D [WORD]`.
+/// Reads the numbers of a line `air S D [WORD]`.
 pub fn air_numbers(line: &[u8]) -> Option<DownNumbers>
     ensures { IfSome result (λ n. form_of line.now ≡ Some (Air n.number n.device n.random)) }
 {
@@ -96,7 +96,7 @@ pub fn air_numbers(line: &[u8]) -> Option<DownNumbers>
     }
 }
 
-/// The parts of a line `raw D PORT HEX [WORD]`.
+/// Reads the parts of a line `raw D PORT HEX [WORD]`.
 pub fn raw_parts(line: &[u8]) -> Option<RawParts<'_>>
     ensures { IfSome result
         (λ r. form_of line.now ≡ Some (Raw r.device r.port r.payload r.random)) }
@@ -107,7 +107,7 @@ pub fn raw_parts(line: &[u8]) -> Option<RawParts<'_>>
     }
 }
 
-/// The parts of a line `rawair D HEX [WORD]`.
+/// Reads the parts of a line `rawair D HEX [WORD]`.
 pub fn raw_air_parts(line: &[u8]) -> Option<RawAirParts<'_>>
     ensures { IfSome result (λ r. form_of line.now ≡ Some (RawAir r.device r.bytes r.random)) }
 {
@@ -117,7 +117,7 @@ pub fn raw_air_parts(line: &[u8]) -> Option<RawAirParts<'_>>
     }
 }
 
-/// Whether a line is `frag`.
+/// Says whether a line is `frag`.
 pub fn is_frag(line: &[u8]) -> bool
     ensures { IsTrue result → form_of line.now ≡ Some Frag }
 {
@@ -127,7 +127,7 @@ pub fn is_frag(line: &[u8]) -> bool
     }
 }
 
-/// Whether a line is `status`.
+/// Says whether a line is `status`.
 pub fn is_status(line: &[u8]) -> bool
     ensures { IsTrue result → form_of line.now ≡ Some Status }
 {
@@ -137,7 +137,7 @@ pub fn is_status(line: &[u8]) -> bool
     }
 }
 
-/// U of a line `up U`.
+/// Reads U of a line `up U`.
 pub fn up_number(line: &[u8]) -> Option<u64>
     ensures { IfSome result (λ n. form_of line.now ≡ Some (Up n)) }
 {
@@ -147,7 +147,7 @@ pub fn up_number(line: &[u8]) -> Option<u64>
     }
 }
 
-/// D of a line `ask D`.
+/// Reads D of a line `ask D`.
 pub fn asked_device(line: &[u8]) -> Option<u64>
     ensures one { IfSome result (λ n. form_of line.now ≡ Some (Ask n)) }
     ensures two { IfSome result (λ n. pair_form_of line.now ≡ of_none (Some (Ask n))) }
@@ -158,7 +158,7 @@ pub fn asked_device(line: &[u8]) -> Option<u64>
     }
 }
 
-/// D of a line `wake D`.
+/// Reads D of a line `wake D`.
 pub fn woken_device(line: &[u8]) -> Option<u64>
     ensures one { IfSome result (λ n. form_of line.now ≡ Some (Wake n)) }
     ensures two { IfSome result (λ n. pair_form_of line.now ≡ of_none (Some (Wake n))) }
@@ -169,7 +169,7 @@ pub fn woken_device(line: &[u8]) -> Option<u64>
     }
 }
 
-/// D of a line `migrate D`.
+/// Reads D of a line `migrate D`.
 pub fn migrated_device(line: &[u8]) -> Option<u64>
     ensures one { IfSome result (λ n. form_of line.now ≡ Some (Migrate n)) }
     ensures two { IfSome result (λ n. pair_form_of line.now ≡ of_none (Some (Migrate n))) }
@@ -180,7 +180,7 @@ pub fn migrated_device(line: &[u8]) -> Option<u64>
     }
 }
 
-/// D of a line `power D`.
+/// Reads D of a line `power D`.
 pub fn powered_device(line: &[u8]) -> Option<u64>
     ensures one { IfSome result (λ n. form_of line.now ≡ Some (Power n)) }
     ensures two { IfSome result (λ n. pair_form_of line.now ≡ of_none (Some (Power n))) }
@@ -191,7 +191,7 @@ pub fn powered_device(line: &[u8]) -> Option<u64>
     }
 }
 
-/// MS of a line `at MS`.
+/// Reads MS of a line `at MS`.
 pub fn time_at(line: &[u8]) -> Option<u64>
     ensures one { IfSome result (λ n. form_of line.now ≡ Some (At n)) }
     ensures two { IfSome result (λ n. pair_form_of line.now ≡ of_none (Some (At n))) }
@@ -309,7 +309,7 @@ fn spaced_decimal(bytes: &[u8]) -> Option<Spaced<'_>>
     })
 }
 
-/// Whether nothing stands after a keyword.
+/// Whether nothing follows a keyword.
 #[tactic(auto, using(crate::proofs::FastForms::frag_line, crate::proofs::FastForms::status_line))]
 fn is_no_more(rest: &[u8]) -> bool
     ensures frag { IsTrue result → form_of (codes "frag" ++ rest.now) ≡ Some Frag }
@@ -318,8 +318,8 @@ fn is_no_more(rest: &[u8]) -> bool
     rest.is_empty()
 }
 
-/// The decimal that stands after a keyword, the last word of its line. Callers take it by `?`, since a proof knows what it
-/// makes of the line only where the number is at hand.
+/// The decimal after a keyword, the last word of its line. Callers take it by `?`, since a proof knows what it makes of the line
+/// only where it has the number.
 #[tactic(auto, using(crate::proofs::FastForms::decimal_last))]
 fn lone_decimal(rest: &[u8]) -> Option<u64>
     ensures { IfSome result (λ n. DecimalLast rest.now n) }
@@ -331,7 +331,7 @@ fn lone_decimal(rest: &[u8]) -> Option<u64>
     Some(found.number)
 }
 
-/// The decimal that the first digits of bytes are, whatever stands after them.
+/// The decimal that the first digits of bytes make, whatever follows them.
 fn leading_decimal(bytes: &[u8]) -> Option<Leading>
     ensures within { IfSome result (λ f. f.end ≤ length bytes.now) }
     ensures decimal { IfSome result (λ f. decimal_of (take f.end bytes.now) ≡ Some f.number) }

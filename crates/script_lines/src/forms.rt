@@ -1,4 +1,4 @@
-//! The forms that the lines of a script have.
+//! The forms of the lines of a script.
 
 use crate::hex_bytes::HexBytes;
 
@@ -14,14 +14,14 @@ pub enum Class {
     C,
 }
 
-/// The form of a line of a script. Decimals are as they are written, those above 2^64 - 1 held as that: what they may be
-/// is `in_range`.
+/// The form of a line of a script. Decimals are as they are written, those above 2^64 - 1 held as that; `in_range` says which
+/// values they may have.
 #[derive(Debug, Drop)]
 pub enum Form<'a> {
     /// `fuota 1`
     Header,
-    /// `image FRAGSIZE PARITY`: bytes a fragment, and coded fragments beyond the uncoded ones. FragIndex is 0 where a script
-    /// has one campaign; where it has two, `INDEX`.
+    /// `image FRAGSIZE PARITY`: the bytes of a fragment, and the number of coded fragments. FragIndex is 0 where a script has one
+    /// campaign; where it has two, `INDEX`.
     Image {
         frag_size: u64,
         parity: u64,
@@ -51,9 +51,9 @@ pub enum Form<'a> {
         freq: u64,
         dr: u64,
     },
-    /// `device ID CLASS HW ROWS OFFSET KEY [DESCRIPTOR] [v1] [k11] [flash]`: OFFSET in seconds; with `v1` it knows image
-    /// format 1 alone, else both. KEY is the GenAppKey of LoRaWAN 1.0, with `k11` the AppKey of LoRaWAN 1.1. With `flash` its
-    /// sessions are held in flash.
+    /// `device ID CLASS HW ROWS OFFSET KEY [DESCRIPTOR] [v1] [k11] [flash]`: OFFSET in seconds; with `v1` it knows only image
+    /// format 1, else both. KEY is the GenAppKey of LoRaWAN 1.0, with `k11` the AppKey of LoRaWAN 1.1. With `flash` its sessions
+    /// are held in flash.
     Device {
         id: u64,
         class: Class,
@@ -96,23 +96,23 @@ pub enum Form<'a> {
         device: u64,
         word: u64,
     },
-    /// `raw D PORT HEX [WORD]`: this payload, whoever made it, reaches device D on this port by unicast, with a random word that
-    /// is 0 where it is left out.
+    /// `raw D PORT HEX [WORD]`: this payload, from anybody, reaches device D on this port by unicast, with a random word that is
+    /// 0 where it is left out.
     Raw {
         device: u64,
         port: u64,
         payload: HexBytes<'a>,
         word: u64,
     },
-    /// `air S D [WORD]`: sent payload S, one to the group, reaches the radio of device D as its frame, with a random word that is
-    /// 0 where it is left out.
+    /// `air S D [WORD]`: sent payload S, to the group, reaches the radio of device D as its frame, with a random word that is 0
+    /// where it is left out.
     Air {
         number: u64,
         device: u64,
         word: u64,
     },
-    /// `rawair D HEX [WORD]`: these bytes, whoever made them, reach the radio of device D, with a random word that is 0 where it
-    /// is left out.
+    /// `rawair D HEX [WORD]`: these bytes, from anybody, reach the radio of device D, with a random word that is 0 where it is
+    /// left out.
     RawAir {
         device: u64,
         bytes: HexBytes<'a>,
@@ -135,8 +135,8 @@ pub enum Campaign {
     B,
 }
 
-/// The form of a line of two campaigns' script: the campaign that it names, if it names one, and the form that the line has
-/// for it.
+/// The form of a line of two campaigns' script: the campaign that it names, where it names one, and the form that the line has
+/// for that campaign.
 #[derive(Drop)]
 pub struct PairForm<'a> {
     pub campaign: Option<Campaign>,

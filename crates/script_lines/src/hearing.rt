@@ -5,21 +5,21 @@ ghost use Rattle.script_lines.specs.Hearing.{HasHeard, Hears, HearsLines};
 
 use crate::pieces::{Cut, Lines};
 
-/// A consumer of lines, that goes on whatever it hears.
+/// A consumer of lines, which goes on whatever it hears.
 pub trait HearsLine {
-    /// How it goes from one state to the next by a line.
+    /// How a line takes it from one state to the next.
     ghost hears: { Self → List ℕ → Self → Type 0 };
 
-    /// Hears a line, without its line feed; of one of more than 600 bytes the first 601.
+    /// Hears a line, without its line feed; of a line of more than 600 bytes, the first 601.
     fn line(&mut self, line: &[u8])
         ensures { hears self.old line.now self.new };
 
-    /// Whether it wants no more lines; then none changes it.
+    /// Says whether it needs no more lines; then none changes it.
     fn is_over(&self) -> bool
         ensures { IsTrue result → (line : List ℕ) → hears self.now line self.now };
 }
 
-/// Hands out the lines that end in a piece; after one after which no more are wanted, none.
+/// Gives the consumer the lines that end in a piece; none after one after which it needs no more.
 pub fn hear_piece<W: HearsLine>(lines: &mut Lines, piece: &[u8], hearer: &mut W)
     ensures { Hears W.hears lines.old lines.new hearer.old hearer.new piece.now }
 {
@@ -34,7 +34,7 @@ pub fn hear_piece<W: HearsLine>(lines: &mut Lines, piece: &[u8], hearer: &mut W)
     }
 }
 
-/// Hands out the first line that ends in a piece, and says how many bytes of it are used.
+/// Gives the consumer the first line that ends in a piece, and returns how many bytes of the piece are used.
 fn hear_next<W: HearsLine>(lines: &mut Lines, piece: &[u8], hearer: &mut W) -> usize
     ensures heard { Hears W.hears lines.old lines.new hearer.old hearer.new
         (take result piece.now) }
@@ -54,7 +54,7 @@ fn hear_next<W: HearsLine>(lines: &mut Lines, piece: &[u8], hearer: &mut W) -> u
     }
 }
 
-/// The stream is at its end: hands out the last line, where it had no line feed.
+/// Ends the stream: gives the consumer the last line, where that had no line feed.
 pub fn hear_last<W: HearsLine>(lines: &mut Lines, hearer: &mut W)
     ensures { (first : W) (stream : List ℕ) → HasHeard W.hears first lines.old hearer.old stream
         → HearsLines W.hears first hearer.new stream }

@@ -12,14 +12,13 @@ use crate::numbers::is_hex_word;
 use arrayvec::ArrayVec;
 use std::marker::Model;
 
-/// The most bytes that a word spells: two digits each, in a line of at most 600.
+/// The most bytes that a word spells: each has two digits, and a line has at most 600 bytes.
 pub const MAX_HEX_BYTES: usize = 300;
 
 /// Room for the bytes of a word before they are read.
 static ZEROS: [u8; MAX_HEX_BYTES] = [0; MAX_HEX_BYTES];
 
-/// A word of hex digits, or `-`, where it stands in its line. Contracts see the bytes that it spells, at most
-/// `MAX_HEX_BYTES`.
+/// A word of hex digits, or `-`, borrowed from its line. Contracts see the bytes that it spells, at most `MAX_HEX_BYTES`.
 #[derive(Debug, Drop)]
 pub struct HexBytes<'a> {
     word: &'a [u8],
@@ -37,8 +36,8 @@ impl<'a> Model for HexBytes<'a> {
 }
 
 impl<'a> HexBytes<'a> {
-    /// The bytes that an even number of hex digits of either case spells, at least two, or that `-` does, which are none. More
-    /// than `MAX_HEX_BYTES` are no word of a line.
+    /// Reads the bytes that an even number of hex digits of either case spells, at least two, or that `-` spells, which are none.
+    /// A word of more than `MAX_HEX_BYTES` spells none.
     pub fn read(word: &'a [u8]) -> Option<Self>
         ensures { result ≡ hex_bytes_of word.now }
     {
@@ -49,7 +48,7 @@ impl<'a> HexBytes<'a> {
         }
     }
 
-    /// How many bytes there are.
+    /// Returns how many bytes there are.
     pub fn len(&self) -> usize
         ensures count { result ≡ length self.now }
         ensures few { result ≤ max_hex_bytes }
@@ -61,7 +60,7 @@ impl<'a> HexBytes<'a> {
         }
     }
 
-    /// Makes these bytes all that `out` has.
+    /// Replaces what `out` holds by these bytes.
     pub fn put(&self, out: &mut ArrayVec<u8, MAX_HEX_BYTES>)
         ensures { out.new.items ≡ self.now }
     {

@@ -1,10 +1,10 @@
-//! Laws about the definitions, each the contract of a function that does nothing.
+//! Laws about the definitions, each the contract of a function with an empty body.
 
 ghost use Rattle.script_lines.specs.WorkedLines.{AreForms, AreNone, AreCut, AreNumbers};
 ghost use Rattle.script_lines.specs.WorkedPairs.{ArePairForms, AreNoPairForms};
 ghost use Rattle.script_lines.specs.WorkedRanges.{AreRanges, AreLimits};
 
-/// Each form is spelled by its worked line, and lines beside them spell none; lines, words and numbers worked out.
+/// Each form is spelled by its worked line, and lines close to these spell none; lines, words and numbers, worked out.
 pub fn worked_lines()
     ensures forms { AreForms }
     ensures none { AreNone }
@@ -12,8 +12,8 @@ pub fn worked_lines()
     ensures numbers { AreNumbers }
 {}
 
-/// Each form of a line of two campaigns' script is spelled by its worked line, for the campaign that it names, and lines beside
-/// them spell none.
+/// Each form of a line of two campaigns' script is spelled by its worked line, for the campaign that it names, and lines close to
+/// these spell none.
 pub fn worked_pairs()
     ensures forms { ArePairForms }
     ensures none { AreNoPairForms }

@@ -1,7 +1,7 @@
-//! The lines of a campaign's script (this project's profile): the stretches between line feeds, the form that a line
-//! spells, and the ranges of its numbers. `form` gives exactly the form that the bytes spell, None where they spell none,
-//! and `in_range` is the table of ranges; `pair_form` does the same for the script of two campaigns. What a form makes of
-//! a campaign, and when it may come, is left to the world above.
+//! The lines of a campaign's script (this project's profile): the stretches between line feeds, the form that a line spells, and
+//! the ranges of its numbers. `form` returns exactly the form that the bytes spell, None where they spell none, and `in_range` is
+//! the table of ranges; `pair_form` does the same for the script of two campaigns. What a form does to a campaign, and when it
+//! may come, is left to the world above.
 //!
 //!     match form(b"down 5 1") {
 //!         Some(read) if in_range(&read) => ..,                 // Form::Down { .. }

@@ -40,7 +40,7 @@ fn decimal_number(digits: &[u8]) -> u64
     number
 }
 
-/// The decimal that a word spells, without a sign or a leading zero but 0 itself; one above 2^64 - 1 is that.
+/// Reads the decimal that a word spells, without a sign or a leading zero except 0 itself; one above 2^64 - 1 is held as that.
 #[tactic(auto, unfolding(crate::specs::Numbers::decimal_of))]
 pub fn decimal(digits: &[u8]) -> Option<u64>
     ensures { result ≡ decimal_of digits.now }
@@ -52,7 +52,7 @@ pub fn decimal(digits: &[u8]) -> Option<u64>
     }
 }
 
-/// The key that 32 hex digits of either case spell.
+/// Reads the key that 32 hex digits of either case spell.
 #[tactic(auto, unfolding(crate::specs::Numbers::key_of))]
 pub fn key(digits: &[u8]) -> Option<Key>
     ensures { result ≡ key_of digits.now }
@@ -64,7 +64,7 @@ pub fn key(digits: &[u8]) -> Option<Key>
     }
 }
 
-/// The number that 8 hex digits of either case spell, the most significant first.
+/// Reads the number that 8 hex digits of either case spell, the most significant first.
 #[tactic(auto, unfolding(crate::specs::Numbers::hex_number_of))]
 pub fn hex_number(digits: &[u8]) -> Option<u32>
     ensures { result ≡ hex_number_of digits.now }
@@ -76,7 +76,7 @@ pub fn hex_number(digits: &[u8]) -> Option<u32>
     }
 }
 
-/// Whether a word has digits, and no more than a line's.
+/// Says whether a word has digits, and no more than a line's.
 pub fn is_hex_word(digits: &[u8]) -> bool
     ensures { result ≡ is_hex_word digits.now }
 {

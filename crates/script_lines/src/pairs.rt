@@ -1,4 +1,4 @@
-//! The form that a line of two campaigns' script spells: the letter of a campaign apart, that of a line of one campaign.
+//! The form that a line of two campaigns' script spells: without the letter of a campaign, that of a line of one campaign.
 
 ghost use Rattle.std.specs.Prelude.{◌≡◌};
 ghost use Rattle.script_lines.specs.Lines.{word};
@@ -13,7 +13,7 @@ use crate::reading::{
 };
 use crate::words::{count_words, is_word, word};
 
-/// The form that a line of two campaigns' script spells, None exactly where it spells none.
+/// Returns the form that a line of two campaigns' script spells; None exactly where it spells none.
 pub fn pair_form(line: &[u8]) -> Option<PairForm<'_>>
     ensures { result ≡ pair_form_of line.now }
 {
@@ -53,7 +53,7 @@ fn any_pair_form(line: &[u8]) -> Option<PairForm<'_>>
     }
 }
 
-/// The form of a line after those of the plan: the moment, and what happens to a device.
+/// The form of a line that is not of the plan: the moment, and what happens to a device.
 fn pair_event_form<'a>(line: &'a [u8], keyword: &[u8]) -> Option<PairForm<'a>>
     requires { keyword.now ≡ word line.now 0 }
     ensures { result ≡ pair_event_form line.now }
@@ -73,7 +73,7 @@ fn pair_event_form<'a>(line: &'a [u8], keyword: &[u8]) -> Option<PairForm<'a>>
     }
 }
 
-/// The form of a line after those: of a campaign that the line names, and the end.
+/// The form of any other line: of a campaign that the line names, and the end.
 fn pair_sent_form<'a>(line: &'a [u8], keyword: &[u8]) -> Option<PairForm<'a>>
     requires { keyword.now ≡ word line.now 0 }
     ensures { result ≡ pair_sent_form line.now }
@@ -95,7 +95,7 @@ fn pair_sent_form<'a>(line: &'a [u8], keyword: &[u8]) -> Option<PairForm<'a>>
     }
 }
 
-/// A form that no campaign has alone.
+/// A form for no campaign by itself.
 fn of_none(form: Option<Form<'_>>) -> Option<PairForm<'_>>
     ensures { result ≡ of_none form.entry }
 {
@@ -106,7 +106,7 @@ fn of_none(form: Option<Form<'_>>) -> Option<PairForm<'_>>
     })
 }
 
-/// A form of the campaign that the line names.
+/// A form for the campaign that the line names.
 fn of_named<'a>(named: Option<Campaign>, form: Option<Form<'a>>) -> Option<PairForm<'a>>
     ensures { result ≡ of_named named form.entry }
 {

@@ -8,7 +8,7 @@ use crate::lines::{last_feed, line_feed};
 use arrayvec::ArrayVec;
 use std::marker::Model;
 
-/// How many bytes of a line are held: one more than a line may have, so that one of more is still too long.
+/// How many bytes of a line are held: one more than a line may have, so that a longer line is still seen to be too long.
 const HELD: usize = 601;
 
 /// What a piece brought.
@@ -40,7 +40,7 @@ impl Model for Lines {
 }
 
 impl Lines {
-    /// Before the first byte of a stream.
+    /// Makes the state before the first byte of a stream.
     pub fn new() -> Self
         ensures { LinesStand result [] }
     {
@@ -50,14 +50,14 @@ impl Lines {
         }
     }
 
-    /// Takes a piece of the stream, up to and with its first line feed, and says how many bytes that are, and whether a line
-    /// has ended, which is exactly where there was a line feed. What is left of the piece is for the next call.
+    /// Takes a piece of the stream, up to and with its first line feed. Returns how many bytes that are, and whether a line has
+    /// ended, which is exactly where there was a line feed. The rest of the piece is for the next call.
     pub fn take(&mut self, piece: &[u8]) -> (usize, Cut)
         ensures used { result ≡ used_of piece.now }
         ensures within { result.0 ≤ length piece.now }
         ensures moves { 0 < length piece.now → 0 < result.0 }
         ensures ended { result.1 ≡ Cut.Line → IsSome self.new.line }
-        // Whatever the stream was so far, the lines handed out are its lines, cut.
+        // Whatever the stream was so far, the lines given are its lines, cut.
         ensures lines { (stream : List ℕ) → LinesStand self.old stream
             → GoesOn self.old self.new (take result.0 piece.now) result.1 stream }
     {
@@ -76,8 +76,8 @@ impl Lines {
         }
     }
 
-    /// Where no line is open and a whole one begins a piece, of no more bytes than are held: the place of its line feed. Such
-    /// a line may be handed out where it lies, and then `self` stands after it as it is.
+    /// The place of the line feed, where no line is open and a whole line, of no more bytes than are held, begins a piece. Such a
+    /// line need not be copied, and `self` then stands after it unchanged.
     pub(crate) fn whole_line(&self, piece: &[u8]) -> Option<usize>
         ensures { IfSome result (λ end. IsWholeLine self.now piece.now end) }
     {
@@ -90,7 +90,7 @@ impl Lines {
         }
     }
 
-    /// Takes a piece of the stream of which no line is wanted.
+    /// Takes a piece of the stream, and keeps none of the lines that end in it.
     pub fn pass(&mut self, piece: &[u8])
         ensures { (stream : List ℕ) → LinesStand self.old stream
             → LinesStand self.new (stream ++ piece.now) }
@@ -106,7 +106,7 @@ impl Lines {
         self.ended = false;
     }
 
-    /// The line that has just ended, without its line feed; of one of more than 600 bytes the first 601.
+    /// Returns the line that has just ended, without its line feed; of a line of more than 600 bytes, the first 601.
     pub fn line(&self) -> &[u8]
         requires { IsSome self.now.line }
         ensures { self.now.line ≡ Some result.now }
@@ -114,7 +114,7 @@ impl Lines {
         self.held.as_slice()
     }
 
-    /// The stream is at its end: whether its last line had no line feed; that is then the line that has just ended. What is
+    /// Ends the stream, and says whether its last line had no line feed; that line is then the one that has just ended. What is
     /// taken next is of a new stream.
     pub fn finish(&mut self) -> bool
         ensures held { IsTrue result ↔ (self.old.open_line ≢ []) }
@@ -129,7 +129,7 @@ impl Lines {
     }
 }
 
-/// Lets go of a line that has ended.
+/// Drops a line that has ended.
 fn open(held: &mut ArrayVec<u8, HELD>, ended: bool)
     requires { length held.old.items ≤ 601 }
     ensures open { held.new.items ≡ open_in held.old.items ended }

@@ -72,7 +72,7 @@ pub(crate) fn group_words(line: &[u8], place: usize, id: u64) -> Option<Form<'_>
     })
 }
 
-/// `window c ..` or `window b ..`, the letter at a place.
+/// `window c ..` or `window b ..`, with the letter at a place.
 pub(crate) fn window_from(line: &[u8], place: usize) -> Option<Form<'_>>
     requires { place ≤ 8 }
     ensures { result ≡ window_from line.now place }
@@ -123,7 +123,7 @@ fn window_b_words(line: &[u8], place: usize) -> Option<Form<'_>>
     })
 }
 
-/// `device ID CLASS HW ROWS OFFSET KEY [DESCRIPTOR] [v1] [k11] [flash]`, CLASS at a place.
+/// `device ID CLASS HW ROWS OFFSET KEY [DESCRIPTOR] [v1] [k11] [flash]`, with CLASS at a place.
 pub(crate) fn device_from(line: &[u8], place: usize) -> Option<Form<'_>>
     requires { place ≤ 8 }
     ensures { result ≡ device_from line.now place }

@@ -6,7 +6,7 @@ ghost use Rattle.script_lines.specs.Ranges.{in_range, is_u32, is_window, is_devi
 
 use crate::forms::Form;
 
-/// The latest time of a script, in milliseconds: the last one of the GPS second 2^32 - 1.
+/// The latest time of a script, in milliseconds since the GPS epoch: the last one of the second 2^32 - 1.
 pub const MAX_TIME: u64 = 4_294_967_295_999;
 
 /// The most coded fragments that a server sends.
@@ -27,8 +27,8 @@ pub const MAX_PORT: u64 = 255;
 /// The most devices of a script.
 const MAX_DEVICES: u64 = 64;
 
-/// Whether each number of the form is within its range. What depends on the image's length, and on which device comes next, is
-/// not looked at.
+/// Says whether each number of the form is within its range. It doesn't look at what depends on the image's length or on which
+/// device comes next.
 #[tactic(auto, unfolding(crate::specs::Ranges::in_range))]
 pub fn in_range(form: &Form) -> bool
     ensures { result ≡ in_range form.now }
@@ -69,7 +69,7 @@ pub fn in_range(form: &Form) -> bool
     }
 }
 
-/// Whether a number is below 2^32.
+/// Says whether a number is below 2^32.
 pub fn is_u32(n: u64) -> bool
     ensures { result ≡ is_u32 n }
 {

@@ -1,4 +1,4 @@
-//! The form that a line spells: its first word says which, and each form has a function of its own.
+//! The form that a line spells: its first word says which, and each form has its own function.
 
 ghost use Rattle.std.specs.Prelude.{◌≡◌};
 ghost use Rattle.std.specs.Str.{bytes_eq};
@@ -15,7 +15,7 @@ use crate::numbers::decimal;
 use crate::plan_forms::{device_from, group_form, header_form, image_form, window_from};
 use crate::words::{count_words, word};
 
-/// The form that a line spells, None exactly where it spells none.
+/// Returns the form that a line spells; None exactly where it spells none.
 pub fn form(line: &[u8]) -> Option<Form<'_>>
     ensures { result ≡ form_of line.now }
 {
@@ -86,7 +86,7 @@ fn any_form(line: &[u8]) -> Option<Form<'_>>
     }
 }
 
-/// The form of a line after those of the plan: the moment, what happens to a device, what the server is asked for.
+/// The form of a line that is not of the plan: the moment, what happens to a device, what the server is asked for.
 fn event_form<'a>(line: &'a [u8], keyword: &[u8]) -> Option<Form<'a>>
     requires { keyword.now ≡ word line.now 0 }
     ensures { result ≡ event_form line.now }
@@ -110,7 +110,7 @@ fn event_form<'a>(line: &'a [u8], keyword: &[u8]) -> Option<Form<'a>>
     }
 }
 
-/// The form of a line after those: what goes to a device or comes from one, and the end.
+/// The form of any other line: what goes to a device or comes from one, and the end.
 fn sent_form<'a>(line: &'a [u8], keyword: &[u8]) -> Option<Form<'a>>
     requires { keyword.now ≡ word line.now 0 }
     ensures { result ≡ sent_form line.now }
@@ -139,7 +139,7 @@ pub(crate) fn is_keyword(word: &[u8], keyword: &str) -> bool
     word == keyword.as_bytes()
 }
 
-/// A form of its keyword alone.
+/// A form of only its keyword.
 pub(crate) fn alone<'a>(line: &[u8], form: Form<'a>) -> Option<Form<'a>>
     ensures { result ≡ alone line.now form.entry }
 {
@@ -273,7 +273,7 @@ fn air_form(line: &[u8]) -> Option<Form<'_>>
     in_the_air(down_form(line))
 }
 
-/// A payload that comes as a frame, where one comes.
+/// A payload that comes as a frame, where there is one.
 pub(crate) fn in_the_air(form: Option<Form<'_>>) -> Option<Form<'_>>
     ensures { result ≡ in_the_air form.entry }
 {

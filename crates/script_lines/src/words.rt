@@ -7,7 +7,7 @@ ghost use Rattle.script_lines.specs.Lines.{words_of, word, is_word};
 
 use memchr::memchr;
 
-/// How many words the line has: one more than it has spaces.
+/// Returns how many words the line has: one more than it has spaces.
 #[tactic(auto, unfolding(crate::specs::Lines::words_of))]
 pub fn count_words(line: &[u8]) -> usize
     ensures { result ≡ length (words_of line.now) }
@@ -23,7 +23,7 @@ fn nth_word(line: &[u8], place: usize) -> Option<&[u8]>
     line.split(|b| *b == b' ').nth(place)
 }
 
-/// The word at a place, counted from 0; empty where there is none.
+/// Returns the word at a place, counted from 0; empty where there is none.
 #[tactic(auto, unfolding(crate::specs::Lines::word, crate::specs::Lines::words_of))]
 pub fn word(line: &[u8], place: usize) -> &[u8]
     ensures { result.now ≡ word line.now place }
@@ -44,7 +44,7 @@ pub(crate) fn first_space(line: &[u8]) -> Option<usize>
     memchr(b' ', line)
 }
 
-/// Whether the word at a place, counted from 0, is this one.
+/// Says whether the word at a place, counted from 0, is this one.
 pub fn is_word(line: &[u8], place: usize, wanted: &str) -> bool
     ensures { result ≡ is_word line.now place wanted.now }
 {

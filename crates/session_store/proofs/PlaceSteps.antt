@@ -1,4 +1,4 @@
--- What a call for one session makes of the four that lie in a flash.
+-- What a call for one session does to the four in a flash.
 use Rattle.std.proofs.Common.{◌≡◌, ◌≢◌, ◌⊎◌, ℕ, ◌+◌, ◌*◌, ◌<◌, ◌≤◌, List, get_or, Option, None, Some, Result, Ok, Err, inl, inr, refl, sym, ap, ap₂, subst, ◌∙◌, arith, lit<, length-set}
 use Rattle.std.proofs.lemmas.Bool.{cases_eq}
 use Rattle.std.proofs.lemmas.List.{set-get_or}
@@ -42,7 +42,7 @@ holding : (P Q R : HeldSession → Type 0) (o : Option HeldSession) → ((h : He
 holding P Q R None to p q = p
 holding P Q R (Some h) to p q = to h p q
 
--- ---- where they lie
+-- ---- where they are
 
 ranges_apart : (l : Layout) (i : ℕ) → i < 4 → (j : ℕ) → j < 4 → i ≢ j → (base_at l i + l.span ≤ base_at l j) ⊎ (base_at l j + l.span ≤ base_at l i)
 ranges_apart l =
@@ -70,7 +70,7 @@ place_again h k l base was is = record {
   extent_is = is.extent_is ∙ was.extent_is;
 }
 
--- ---- what lies there does not depend on what is held
+-- ---- what is there does not depend on what is held
 
 lies_placed : (h : HeldSession) (l : Layout) (base : ℕ) (o : Option Session) (c : List ℕ) → IsPlace h l base → LiesForAs h o c → LiesForAs (place_at l base) o c
 unfolding extent_of
@@ -129,7 +129,7 @@ module _ (p : HeldPlaces) (j : ℕ) (h : HeldSession) (lj : j < 4) (at : get_or 
   pub it_has : (P : HeldSession → Option Session → Type 0) (t : SessionTable) → Each P p t → P h (session_at t j)
   it_has P t each = here (λ k. P k (session_at t j)) _ h at (each.each j lj)
 
-  -- what is held in memory: this one's is told, the others are as they were
+  -- what is held in memory: the call says this one's, the others are as they were
   pub stands_on : (k : HeldSession) (t : SessionTable) (o : Option Session) → PlacesStand p t → PlaceStands k o → PlacesStand (after_at p j k) (with_session t j o)
   stands_on k t o each mine = record {
     each = each_set None (λ y q. Holding (λ z. PlaceStands z q) y) p.sessions t j (Some k) o are.four lj mine (λ i lt ne. each.each i lt);
@@ -146,7 +146,7 @@ module _ (p : HeldPlaces) (j : ℕ) (h : HeldSession) (lj : j < 4) (at : get_or 
         (are.each i lt) (each.each i lt));
   }
 
-  -- what a stop leaves at any moment: that of this one, and for the others what lay there
+  -- what a stop leaves at any moment: that of this one, and for the others what was there
   module _ (t : SessionTable) {old new : FlashSeen} (Mine : List ℕ → Type 0) (each : AreHeld p t old) (call : Elapses (SameOutside h.base h.span) old new) (mine : LeavesOnly Mine old new) where
     beside : (i : ℕ) → i < 4 → LeavesOnly (λ c. i ≢ j → LiesAt p.layout t c i) old new
     beside i lt = elim (cases_eq i j) [
@@ -212,7 +212,7 @@ held_stands p t seen held = record {
       (λ k is same. record { stands = is.stands; counted = is.counted }) (held.each i lt) (held.each i lt);
 }
 
--- ---- what lies there for those that are held
+-- ---- what is there for those that are held
 
 lies_read : (h : HeldSession) (o : Option Session) (seen : FlashSeen) → IsHeldAs h o seen → (b : List ℕ) → seen.holds b → LiesForAs h o b
 lies_read h None seen held b now = held.stored.read b now
@@ -225,7 +225,7 @@ lies_read h (Some s) seen held b now = record {
   lies = held.stored.read b now;
 }
 
--- each lies there by what is known of it
+-- each is there by what is known of it
 all_lie : (p : HeldPlaces) (t : SessionTable) (c : List ℕ) (P : HeldSession → Option Session → Type 0) → ArePlaces p → Each P p t
     → ((k : HeldSession) (o : Option Session) → 24640 ≤ k.span → P k o → LiesForAs k o c) → TableLies p.layout t c
 all_lie p t c P are each to = table_of p.layout t c (λ i lt. both (λ k. IsPlace k p.layout (base_at p.layout i)) (λ k. P k (session_at t i)) (LiesAt p.layout t c i) (get_or p.sessions i None) (are.each i lt) (each.each i lt)
@@ -239,7 +239,7 @@ held_read p t seen are held b now = all_lie p t b (λ k o. IsHeldAs k o seen) ar
 pub held_left : (p : HeldPlaces) (t : SessionTable) (seen : FlashSeen) → ArePlaces p → AreHeld p t seen → (c : List ℕ) → left seen c → TableLies p.layout t c
 held_left p t seen are held c now = all_lie p t c (λ k o. IsHeldAs k o seen) are held (λ k o long its. lies_for k o seen (omega (arith, long)) its c now)
 
--- what lay there lies there still, where nothing was written
+-- what was there is still there, where nothing was written
 pub lies_still : (l : Layout) (t : SessionTable) (b c : List ℕ) → Same b c → TableLies l t b → TableLies l t c
 lies_still l t b c same lies = record {
   first = lies_for_same (place_at l 0) t.first b c same lies.first;
@@ -248,7 +248,7 @@ lies_still l t b c same lies = record {
   fourth = lies_for_same (place_at l (3 * l.span)) t.fourth b c same lies.fourth;
 }
 
--- what a read gives after a failure lies for those that a stop might leave
+-- what a read gives after a failure is there for those that a stop might leave
 pub same_old_new : (l : Layout) (old new : SessionTable) (b c : List ℕ) → Same b c → TableOldOrNew l old new b → TableOldOrNew l old new c
 same_old_new l old new b c same lies = elim lies [ inl was ↦ inl (lies_still l old b c same was) | inr is ↦ inr (lies_still l new b c same is) ]
 

@@ -1,4 +1,4 @@
--- Where four sessions lie, by computing.
+-- Where four sessions are, by computing.
 use Rattle.std.proofs.Common.{◌≡◌, ℕ, true, false, List, Option, Some, None, refl, arith}
 use Rattle.std.specs.Prelude.{is_some}
 use Rattle.row_elimination.specs.Room.{has_room, words_for}

@@ -1,4 +1,4 @@
--- When what lies in the ranges of the four sessions is no session's, and where.
+-- When the bytes in the ranges of the four sessions are no session's, and where.
 use Rattle.std.specs.Prelude.{ℕ, ◌*◌, List}
 use Rattle.flash_session.specs.Opening.{IsFirstForeign, NothingForeign}
 use Rattle.session_store.specs.declared.held_slots.Layout.{Layout}

@@ -1,4 +1,4 @@
--- The sessions of a device in one flash, by their index, each in a range of its own (this project's profile).
+-- The sessions of a device in one flash, by their index, each in its own range (this project's profile).
 use Rattle.std.specs.Prelude.{◌≡◌, ◌⊎◌, ℕ, ◌*◌, ◌<◌, ◌≤◌, ◌==◌, if◌then◌else◌, List, length, get_or, Option, Some, None, Result, OnOk, OnErr}
 use Rattle.frag_session.specs.Session.{Session}
 use Rattle.frag_session.specs.Setup.{Room}
@@ -16,9 +16,9 @@ use Rattle.session_store.specs.declared.held_slots.Layout.{Layout}
 use Rattle.session_store.specs.Rows.{row_words, row_bytes}
 use Rattle.session_store.specs.SessionTable.{SessionTable, session_at, with_session}
 
--- ---- where they lie
+-- ---- where they are
 
--- what is held, by index, and how it lies; within a call the place of one is empty
+-- what is held, by index, and the layout; within a call the place of one is empty
 pub record HeldPlaces : Type 0 where
   pub sessions : List (Option HeldSession)
   pub layout : Layout
@@ -72,7 +72,7 @@ PlacesStand h table = Each PlaceStands h table
 abbrev pub AreHeld : HeldPlaces → SessionTable → FlashSeen → Type 0
 AreHeld h table seen = Each (λ k o. IsHeldAs k o seen) h table
 
--- the four lie there, so that opening gives them
+-- the four are there, so that opening gives them
 pub record TableLies (l : Layout) (table : SessionTable) (c : List ℕ) : Type 0 where
   pub first : LiesForAs (place_at l 0) table.first c
   pub second : LiesForAs (place_at l l.span) table.second c
@@ -104,9 +104,9 @@ pub record PlacesServe {Answer : Type 0} (after : SessionTable → SessionTable)
   pub stands : (table : SessionTable) → PlacesStand was table → OnOk result (PlacesStand is (after table))
   -- they are what a read gives, and what a stop leaves
   pub stored : (table : SessionTable) → AreHeld was table old → OnOk result (AreHeld is (after table) new)
-  -- a stop at any moment leaves this alone
+  -- a stop at any moment leaves only this
   pub any_moment : (table : SessionTable) → AreHeld was table old → LeavesOnly (leaves table (after table)) old new
-  -- and where the flash failed a read gives this alone
+  -- and where the flash failed a read gives only this
   pub again : (table : SessionTable) → AreHeld was table old → OnErr result ((b : List ℕ) → new.holds b → leaves table (after table) b)
   pub layout : is.layout ≡ was.layout
   pub size : new.room ≡ old.room

@@ -29,7 +29,7 @@ pub record SessionsStand (held : HeldSessions) (table : SessionTable) : Type 0 w
 abbrev pub room_in : HeldSessions → Room
 room_in held = memory_room row_words row_bytes (extent_for held.area)
 
--- what is held went this way, whatever sessions it stood for
+-- what is held changed this way, for any sessions it stood for
 abbrev pub TableBecomes : (old new : HeldSessions) → (SessionTable → SessionTable) → Type 0
 TableBecomes old new after = (table : SessionTable) → SessionsStand old table → SessionsStand new (after table)
 

@@ -1,4 +1,4 @@
--- What the sessions of a device are, wherever they lie, with its flash, and for which they stand.
+-- What the sessions of a device are, wherever they are stored, with its flash, and for which they stand.
 use Rattle.std.specs.Prelude.{◌≡◌, ℕ, ◌*◌, ◌≤◌, Bool, true, false, List, Option, Some, None, Result, OnOk, OnErr, IfOk, MatchResult, is_ok}
 use Rattle.row_elimination.specs.Room.{extent_for}
 use Rattle.flash_session.specs.Contents.{HasCause}
@@ -18,7 +18,7 @@ use Rattle.session_store.specs.declared.state.CompleteFlags.{CompleteFlags}
 use Rattle.session_store.specs.declared.store.FlashFault.{FlashFault}
 use Rattle.session_store.specs.SessionTable.{SessionTable}
 
--- the flash, how sessions lie there, whether they are held there, and where they are
+-- the flash, how sessions are laid out there, whether they are held there, and where they are
 pub record HeldStore (F : Type 0) : Type 0 where
   pub flash : F
   pub layout : Layout
@@ -59,7 +59,7 @@ StateStands (Memory slots) table = SessionsStand slots table
 StateStands (Flash slots) table = PlacesStand slots table
 StateStands (Down idles flags) table = ⊥
 
--- where they are held in flash they lie there too
+-- where they are held in flash they are there too
 abbrev pub StateIsStored : State → SessionTable → FlashSeen → Type 0
 StateIsStored (Memory slots) table seen = Unit {0}
 StateIsStored (Flash slots) table seen = AreHeld slots table seen
@@ -71,13 +71,13 @@ HadWhole (Memory slots) whole = (table : SessionTable) × StateStands (Memory sl
 HadWhole (Flash slots) whole = (table : SessionTable) × StateStands (Flash slots) table × (whole ≡ flags_of table)
 HadWhole (Down idles was) whole = whole ≡ was
 
--- they are up in flash, and lie there
+-- they are up in flash, and are there
 abbrev pub StateIsHeld : State → SessionTable → FlashSeen → Type 0
 StateIsHeld (Memory slots) table seen = ⊥
 StateIsHeld (Flash slots) table seen = AreHeld slots table seen
 StateIsHeld (Down idles flags) table seen = ⊥
 
--- the ranges are long enough, and lie within so many bytes
+-- the ranges are long enough, and are within so many bytes
 abbrev pub HasRanges : Layout → (room : ℕ) → Type 0
 HasRanges layout room = (records_place ≤ layout.span) × (4 * layout.span ≤ room)
 
@@ -99,11 +99,11 @@ pub record StoreServes {F Answer : Type 0} (seen : F → FlashSeen) (after : Ses
     (leaves : (old new : SessionTable) → List ℕ → Type 0) (old new : HeldStore F) (result : Result Answer FlashFault) : Type 0 where
   -- they stand for the sessions after the call
   pub stands : (table : SessionTable) → StateStands old.state table → OnOk result (StateStands new.state (after table))
-  -- and lie in the flash, where they are held there
+  -- and are in the flash, where they are held there
   pub stored : (table : SessionTable) → StateIsStored old.state table (seen old.flash) → OnOk result (StateIsStored new.state (after table) (seen new.flash))
-  -- a stop at any moment leaves this alone
+  -- a stop at any moment leaves only this
   pub any_moment : (table : SessionTable) → StateIsHeld old.state table (seen old.flash) → LeavesOnly (leaves table (after table)) (seen old.flash) (seen new.flash)
-  -- and where the flash failed a read gives this alone, so that power gives it
+  -- and where the flash failed a read gives only this, so that power gives it
   pub again : (table : SessionTable) → StateIsHeld old.state table (seen old.flash)
       → OnErr result ((b : List ℕ) → (seen new.flash).holds b → leaves table (after table) b)
   -- they are up at Ok, in flash where they were; at Err they are down, and which files were whole is kept
@@ -116,12 +116,12 @@ pub record StoreServes {F Answer : Type 0} (seen : F → FlashSeen) (after : Ses
   pub size : (seen new.flash).room ≡ (seen old.flash).room
   pub cause : HasCause (seen old.flash).faults (seen new.flash).faults result
 
--- power came: the sessions that lie in the flash are there, or they are down still
+-- power came: the sessions that are in the flash are there, or they are still down
 pub record StorePowers {F : Type 0} (seen : F → FlashSeen) (old new : HeldStore F) (result : Result CompleteFlags OpenFault) : Type 0 where
-  -- what lies for these sessions is what they are after it, or the flash failed
+  -- what is there for these sessions is what they are after it, or the flash failed
   pub opened : (table : SessionTable) (b : List ℕ) → (seen new.flash).holds b → TableLies old.layout table b
       → MatchResult result (λ flags. StateStands new.state table × StateIsStored new.state table (seen new.flash)) (λ e. e ≡ why.Flash)
-  -- what lay for the sessions that were held lies there still, so that power at them gives them again
+  -- what was there for the sessions that were held is still there, so that power at them gives them again
   pub again : (table : SessionTable) → StateIsHeld old.state table (seen old.flash) → (b : List ℕ) → (seen new.flash).holds b → TableLies old.layout table b
   -- at Ok it says which files were whole when they were last up
   pub whole : (table : SessionTable) → StateStands old.state table → IfOk result (λ flags. flags ≡ flags_of table)

@@ -1,4 +1,4 @@
--- Where four sessions lie in a flash, and the room of each, worked out (this project's profile).
+-- Where four sessions are in a flash, and the room of each, worked out (this project's profile).
 use Rattle.std.specs.Prelude.{◌≡◌, ℕ, Bool, true, false, List, [], ◌∷◌, is_some, None}
 use Rattle.frag_session.specs.declared.setups.SetupReq.{SetupReq}
 use Rattle.frag_session.specs.Setup.{Room, setup_bits}
@@ -17,7 +17,7 @@ worked_layout span = record { area = 262382; span = span; limits = record { sess
 abbrev pub indices : SessionTable → List Bool
 indices table = is_some table.first ∷ is_some table.second ∷ is_some table.third ∷ is_some table.fourth ∷ []
 
--- where these bytes lie in ranges of 2, the sessions are at these indices
+-- where these bytes are in ranges of 2, the sessions are at these indices
 abbrev pub AreAt : (bytes : List ℕ) → List Bool → Type 0
 AreAt bytes there = (table : SessionTable) → TableLies (worked_layout 2) table bytes → indices table ≡ there
 
@@ -33,7 +33,7 @@ pub record WorkedRanges : Type 0 where
   pub second_there : AreAt (0x00 ∷ 0x00 ∷ 0xa5 ∷ 0x00 ∷ 0x00 ∷ 0x00 ∷ 0x00 ∷ 0x00 ∷ []) (false ∷ true ∷ false ∷ false ∷ [])
   pub third_there : AreAt (0x00 ∷ 0x00 ∷ 0x00 ∷ 0x00 ∷ 0xa5 ∷ 0x00 ∷ 0x00 ∷ 0x00 ∷ []) (false ∷ false ∷ true ∷ false ∷ [])
   pub fourth_there : AreAt (0x00 ∷ 0x00 ∷ 0x00 ∷ 0x00 ∷ 0x00 ∷ 0x00 ∷ 0xa5 ∷ 0x00 ∷ []) (false ∷ false ∷ false ∷ true ∷ [])
-  -- the first foreign range is told, whatever lies in those after it
+  -- the answer has the first foreign range, whatever is in those after it
   pub first_foreign : (bytes : List ℕ) (place : ℕ) → let l = worked_layout 30000 in
       IsFirstForeign (place_at l 0) bytes place → IsForeignIn l bytes place
   pub second_foreign : (bytes : List ℕ) (place : ℕ) → let l = worked_layout 30000 in

@@ -1,5 +1,5 @@
-//! The four sessions of a device in one flash (TS004-1.0.0), by their index: that of index i in the `span` bytes from i * span.
-//! A call is for one of them, and leaves the three others as they were.
+//! The four sessions of a device in one flash (TS004-1.0.0, FragIndex): that of index i in the `span` bytes from i * span on. A
+//! call is for one of them, and leaves the three others as they were.
 
 ghost use Rattle.std.specs.Prelude.{◌≡◌, ℕ, ◌*◌, ◌^◌, ◌<◌, ◌≤◌, List, Option, None, IfOk, IfErr, IfSome, MatchResult, is_some, option_map, length};
 ghost use Rattle.frag_session.specs.Setup.{setup_bits};
@@ -22,7 +22,7 @@ use row_elimination::{Memory, Solver};
 use std::alloc::Global;
 use std::marker::Model;
 
-/// The memory of four sessions of which none lives.
+/// The memory of four sessions; none of them is there.
 #[derive(Drop)]
 pub struct Idles {
     first: Idle<ROW_WORDS, ROW_BYTES>,
@@ -31,18 +31,19 @@ pub struct Idles {
     fourth: Idle<ROW_WORDS, ROW_BYTES>,
 }
 
-/// How the sessions of a device lie in its flash, and what each is limited to.
+/// How the sessions of a device are laid out in its flash, and the limits of each.
 #[derive(Clone, Copy, Debug)]
 pub struct Layout {
-    /// Bytes of the file area of a session in memory.
+    /// The bytes of a session's file area in memory.
     pub area: u32,
-    /// Bytes of flash of a session that is held: 24,640 at least, and four times it within the flash.
+    /// The bytes of flash of a session that is held: at least 24,640, and four times it fits the flash.
     pub span: u32,
+    /// The limits of each session.
     pub limits: Limits,
 }
 
-/// A session, or a place for one, at each index, 0 to 3. Contracts see what each holds in memory, for which sessions it
-/// stands, and what lies in the flash.
+/// A session, or a place for one, at each index, 0 to 3. Contracts see what each holds in memory, for which sessions it stands,
+/// and what is in the flash.
 #[derive(Drop)]
 pub struct HeldSlots {
     sessions: [Option<Held<ROW_WORDS, ROW_BYTES>>; 4],
@@ -60,7 +61,7 @@ impl Model for HeldSlots {
 }
 
 impl Idles {
-    /// Memory for four sessions, each with a file area of so many bytes.
+    /// Takes the memory of four sessions, each with a file area of so many bytes; `Memory` where there is too little.
     pub fn reserve(alloc: Global, area: u32) -> Result<Self, Memory>
         ensures { IfOk result (AreIdle area) }
     {
@@ -81,8 +82,8 @@ fn idle(alloc: Global, area: u32) -> Result<Idle<ROW_WORDS, ROW_BYTES>, Memory>
 }
 
 impl HeldSlots {
-    /// Opens the four ranges from the flash's first byte on: each with the session that lies there, or with none. Foreign names
-    /// the lowest foreign place of the first range that has one, counted from the range's first byte.
+    /// Opens the four ranges from the flash's first byte on: each with the session that is stored there, or with none. `Foreign`
+    /// names the lowest foreign place of the first range that has one, counted from the range's first byte.
     pub fn open<F: Flash>(
         flash: &mut F,
         idles: Idles,
@@ -91,7 +92,7 @@ impl HeldSlots {
         requires idle { AreIdle layout.area idles }
         requires range { 4 * layout.span ≤ (F.seen flash.old).room }
         requires long { records_place ≤ layout.span }
-        // What lies for these sessions, as each call leaves it at any moment, opens for them.
+        // The content that any call leaves for these sessions at any moment opens for them.
         ensures opened { (table : SessionTable) (b : List ℕ) → (F.seen flash.new).holds b
             → TableLies layout table b
             → MatchResult result (λ h. AreHeld h table (F.seen flash.new))
@@ -169,8 +170,8 @@ impl HeldSlots {
         }
     }
 
-    /// Answers FragSessionSetupReq with all refusal bits: without one the session there stays, or gives way to a new one. At Err
-    /// nothing is known of that session: open the sessions again.
+    /// Takes a FragSessionSetupReq (TS004-1.0.0) and returns all refusal bits; without one the session of that index stays or is
+    /// replaced. At Err nothing is known of that session: open the sessions again.
     pub fn setup<F: Flash>(&mut self, flash: &mut F, req: SetupReq) -> Result<u8, Failed>
         requires fields { FieldsFit req }
         requires range { 4 * self.old.layout.span ≤ (F.seen flash.old).room }
@@ -195,7 +196,7 @@ impl HeldSlots {
         }
     }
 
-    /// A session hears a fragment, or drops it. At Err nothing is known of it: open the sessions again.
+    /// Hears a fragment of a session, or drops it. At Err nothing is known of that session: open the sessions again.
     pub fn fragment<F: Flash>(
         &mut self,
         flash: &mut F,
@@ -260,7 +261,7 @@ impl HeldSlots {
         }
     }
 
-    /// What a session answers to a status request, if anything.
+    /// Answers a status request to a session; None where it has no answer.
     pub fn status(&self, index: u8, via: Via, all: bool) -> Option<StatusAns>
         requires { index < 4 }
         ensures value { (table : SessionTable) → PlacesStand self.now table
@@ -273,7 +274,7 @@ impl HeldSlots {
         }
     }
 
-    /// What a session shows; None exactly where there is none.
+    /// Returns what a session shows; None exactly where there is none.
     pub fn view(&self, index: u8) -> Option<View<'_>>
         requires { index < 4 }
         ensures value { (table : SessionTable) → PlacesStand self.now table
@@ -286,20 +287,20 @@ impl HeldSlots {
         }
     }
 
-    /// What a stop between two calls leaves opens for the sessions that are held, and so does what a read gives.
+    /// Both what a stop between two calls leaves and what a read gives open for the sessions that are held.
     pub fn lie<F: Flash>(&self, flash: &F)
         ensures left { (table : SessionTable) → AreHeld self.now table (F.seen flash.now)
             → (c : List ℕ) → left (F.seen flash.now) c → TableLies self.now.layout table c }
         ensures read { (table : SessionTable) → AreHeld self.now table (F.seen flash.now)
             → (b : List ℕ) → (F.seen flash.now).holds b → TableLies self.now.layout table b }
     {
-        // (a law: a field is read, so that what is kept true of all of them is known)
+        // (a law: it reads a field, so that what all fields keep true is known)
         let _layout = &self.layout;
-        // (which its clauses alone speak of)
+        // (only its clauses speak of it)
         let _flash = flash;
     }
 
-    /// Gives the memory back, for another opening. No flash is called.
+    /// Returns the memory, for another opening. No flash is called.
     pub fn close(self) -> Idles
         ensures { AreIdle self.layout.area result }
     {
@@ -316,7 +317,7 @@ impl HeldSlots {
     }
 }
 
-/// A place for the session of an index, of which nothing is known.
+/// A place for the session of an index; nothing is known of it.
 fn unopened(
     layout: Layout,
     index: u8,

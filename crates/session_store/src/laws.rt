@@ -1,8 +1,8 @@
-//! What holds of the definitions alone.
+//! Laws about the definitions, each the contract of a function with an empty body.
 
 ghost use Rattle.session_store.specs.WorkedPlaces.{WorkedRanges, WorkedRooms};
 
-/// Where four sessions lie in a flash, and which setups there is room for.
+/// Where four sessions are in a flash, and which setups there is room for, worked out.
 pub fn worked_places()
     ensures ranges { WorkedRanges }
     ensures rooms { WorkedRooms }

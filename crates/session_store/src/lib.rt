@@ -1,9 +1,9 @@
-//! The four sessions of a device, by their index: in memory alone, or held in one flash, each in a range of its own, or down
-//! until power comes. Whatever call is stopped, opening them again gives the sessions as they were, or as they are after the
-//! call; of a setup and a delete none at that index, too.
+//! The four sessions of a device, by their index: only in memory, or held in one flash, each in its own range, or down until
+//! power comes. Whatever call is stopped, opening them again gives the sessions as they were or as they are after the call; for a
+//! setup and a delete it may also give none at that index. What happens to a whole file is left to the device above.
 //!
 //!     let mut store = SessionStore::reserve(alloc, flash, layout, true)?; // all memory; `flash` is a `Flash`
-//!     store.power()?;                                          // the sessions that lie there, or none
+//!     store.power()?;                                          // the sessions that are stored there, or none
 //!     match store.fragment(0, Via::Unicast, n, part, mark) {
 //!         Ok(heard) => ..,                                     // what was heard outlasts a stop
 //!         Err(FlashFault) => store.power()?,                   // the flash failed: they are down

@@ -1,4 +1,4 @@
-//! The four sessions of a device (TS004-1.0.0), by their index.
+//! The four sessions of a device (TS004-1.0.0, FragIndex) in memory.
 
 ghost use Rattle.std.specs.Prelude.{◌≡◌, ◌≢◌, ◌<◌, ◌≤◌, Option, None, IfOk, IfSome, is_some, option_map, length};
 ghost use Rattle.frag_session.specs.Setup.{setup_bits};
@@ -15,13 +15,13 @@ use row_elimination::{Memory, Solver};
 use std::alloc::Global;
 use std::marker::Model;
 
-/// The words of 64 coefficients that are kept for the rows of a session: 256 rows of 4,096 columns.
+/// The words of 64 coefficients for the rows of a session: 256 rows of 4,096 columns.
 pub const ROW_WORDS: usize = 16_384;
 
-/// The bytes that are kept for the rows of a session: 256 rows of 239 bytes.
+/// The bytes for the rows of a session: 256 rows of 239 bytes.
 pub const ROW_BYTES: usize = 61_184;
 
-/// A slot for each session, with all memory that it will ever need.
+/// A slot for each session, with all memory that it ever needs.
 #[derive(Drop)]
 pub struct SessionSlots {
     slots: [Slot<ROW_WORDS, ROW_BYTES>; 4],
@@ -38,7 +38,7 @@ impl Model for SessionSlots {
 }
 
 impl SessionSlots {
-    /// Slots without sessions, each with a file area of so many bytes.
+    /// Takes the memory of slots without sessions, each with a file area of so many bytes; `Memory` where there is too little.
     pub fn reserve(alloc: Global, area: u32) -> Result<Self, Memory>
         ensures stands { IfOk result (λ s. SessionsStand s no_sessions) }
         ensures area { IfOk result (λ s. s.area ≡ area) }
@@ -53,7 +53,7 @@ impl SessionSlots {
         })
     }
 
-    /// Answers FragSessionSetupReq with all refusal bits: without one the session there stays, or gives way to a new one.
+    /// Takes a FragSessionSetupReq and returns all refusal bits; without one the session of that index stays or is replaced.
     pub fn setup(&mut self, req: SetupReq, limits: Limits) -> u8
         requires { req.index < 4 }
         ensures bits { result ≡ setup_bits limits (room_in self.old) req }
@@ -64,7 +64,7 @@ impl SessionSlots {
         self.slots[usize::from(req.index)].setup(req, limits)
     }
 
-    /// A session hears a fragment, or drops it.
+    /// Hears a fragment of a session, or drops it.
     pub fn fragment(&mut self, index: u8, via: Via, n: u16, part: &[u8], mark: u64) -> Heard
         requires { index < 4 }
         ensures answer { (table : SessionTable) → SessionsStand self.old table
@@ -78,7 +78,7 @@ impl SessionSlots {
         self.slots[usize::from(index)].fragment(via, n, part, mark)
     }
 
-    /// What a session answers to a status request, if anything.
+    /// Answers a status request to a session; None where it has no answer.
     pub fn status(&self, index: u8, via: Via, all: bool) -> Option<StatusAns>
         requires { index < 4 }
         ensures value { (table : SessionTable) → SessionsStand self.now table
@@ -99,7 +99,7 @@ impl SessionSlots {
         self.slots[usize::from(index)].delete()
     }
 
-    /// What a session shows; None exactly where there is none.
+    /// Returns what a session shows; None exactly where there is none.
     pub fn view(&self, index: u8) -> Option<View<'_>>
         requires { index < 4 }
         ensures value { (table : SessionTable) → SessionsStand self.now table

@@ -15,7 +15,7 @@ use frag_session::Verdict;
 use row_elimination::Memory;
 use std::alloc::Global;
 
-/// Which sessions had their file whole when the device was last up.
+/// Which sessions, of index 0 to 3 in order, had their file whole when the device was last up.
 #[derive(Clone, Copy, Debug, PartialEq, Eq)]
 pub struct CompleteFlags {
     pub first: bool,
@@ -32,7 +32,7 @@ pub enum State {
     Down(Idles, CompleteFlags),
 }
 
-/// Where the sessions of a new device are.
+/// Makes the state of a new device: its sessions in memory, or down.
 pub fn first_state(alloc: Global, layout: Layout, held: bool) -> Result<State, Memory>
     ensures memory { held ≡ false → IfOk result
         (λ state. StateStands state no_sessions × StateFits layout 0 state) }
@@ -61,7 +61,7 @@ pub fn first_state(alloc: Global, layout: Layout, held: bool) -> Result<State, M
     }
 }
 
-/// Puts sessions that are held back where they were taken from.
+/// Puts held sessions back where they were taken from.
 pub fn put_slots(place: &mut Option<State>, slots: HeldSlots)
     ensures { place.new ≡ Some (State.Flash slots) }
 {
@@ -75,7 +75,7 @@ pub fn put_idles(place: &mut Option<State>, idles: Idles, flags: CompleteFlags)
     *place = Some(State::Down(idles, flags));
 }
 
-/// Puts sessions down that are up in flash, with which had their file whole.
+/// Puts sessions down that are up in flash, with the flags of those whose file was whole.
 pub fn go_down(place: &mut Option<State>, flags: CompleteFlags)
     ensures { (slots : HeldPlaces) → place.old ≡ Some (State.Flash slots)
         → (idles : _) × (place.new ≡ Some (Down idles flags)) × AreIdle slots.layout.area idles }
@@ -85,7 +85,7 @@ pub fn go_down(place: &mut Option<State>, flags: CompleteFlags)
     }
 }
 
-/// The memory of sessions that are held in flash, taken from their place, and which had their file whole.
+/// Returns the memory of sessions that are held in flash, taken from their place, and which had their file whole.
 pub fn put_down<F: Flash>(place: Option<State>, flash: &F, layout: Layout) -> (Idles, CompleteFlags)
     requires there { (is_some place ≡ true) × IsInFlash (kept place) }
     requires fits { StateFits layout (F.seen flash.now).room (kept place) }
@@ -103,12 +103,12 @@ pub fn put_down<F: Flash>(place: Option<State>, flash: &F, layout: Layout) -> (I
             (slots.close(), flags)
         }
         Some(State::Down(idles, flags)) => (idles, flags),
-        // (`there` rules these out: nothing in memory is down, and a place is empty only within a call)
+        // (`there` rules these out: nothing in memory goes down, and a place is empty only within a call)
         Some(State::Memory(_)) | None => unreachable!(),
     }
 }
 
-/// Which sessions have their file whole now.
+/// Says which sessions have their file whole now.
 pub fn flags_now(slots: &HeldSlots) -> CompleteFlags
     ensures { (table : SessionTable) → PlacesStand slots.now table → result ≡ flags_of table }
 {
@@ -133,7 +133,7 @@ fn is_whole(slots: &HeldSlots, index: u8) -> bool
     }
 }
 
-/// Whether the verdict is that the file is whole.
+/// Says whether the verdict is that the file is whole.
 pub fn is_complete(verdict: Verdict) -> bool
     ensures { result ≡ is_complete verdict }
 {

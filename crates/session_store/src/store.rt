@@ -1,4 +1,4 @@
-//! The sessions of a device, wherever they lie, with its flash: in memory alone, in flash, or down until power comes.
+//! The sessions of a device, wherever they are, with its flash: only in memory, in flash, or down until power comes.
 
 ghost use Rattle.std.specs.Prelude.{◌≡◌, ℕ, ◌<◌, ◌≤◌, List, Option, None, true, false, IfOk, IfSome, is_some, option_map, length};
 ghost use Rattle.frag_session.specs.Setup.{setup_bits};
@@ -31,8 +31,8 @@ use thiserror::Error;
 #[error("a call of the flash failed")]
 pub struct FlashFault;
 
-/// The four sessions of a device, by their index, 0 to 3, and the flash that they lie in, if they do. Contracts see
-/// where they are, and for which sessions they stand; what is down stands for none.
+/// The four sessions of a device, by their index, 0 to 3, and the flash that may hold them. Contracts see where they are, and for
+/// which sessions they stand; sessions that are down stand for none.
 #[derive(Drop)]
 pub struct SessionStore<F: Flash + Drop> {
     flash: F,
@@ -60,8 +60,8 @@ impl<F: Flash + Drop> Model for SessionStore<F> {
 impl<F: Flash + Drop> SessionStore<F> {
     ghost use Rattle.session_store.specs.declared.state.CompleteFlags.{CompleteFlags};
 
-    /// Where `held` is false in memory alone, and no flash is called; else down over the flash, in four ranges that lie
-    /// within it, until `power`. Memory comes where memory is missing, and the flash is dropped then.
+    /// Takes all memory. Where `held` is false the sessions are only in memory, and no flash is called; else they are down over
+    /// four ranges within the flash, until `power`. `Memory` comes where memory is missing, and the flash is then dropped.
     pub fn reserve(alloc: Global, flash: F, layout: Layout, held: bool) -> Result<Self, Memory>
         requires { held ≡ true → HasRanges layout (F.seen flash).room }
         ensures memory { held ≡ false → IfOk result (λ s. StateStands s.state no_sessions) }
@@ -83,7 +83,7 @@ impl<F: Flash + Drop> SessionStore<F> {
         }
     }
 
-    /// Whether they are down until power comes.
+    /// Says whether they are down until power comes.
     pub fn is_down(&self) -> bool
         ensures down { result ≡ true → IsDown self.now.state }
         ensures up { result ≡ false → IsUp self.now.state }
@@ -102,7 +102,7 @@ impl<F: Flash + Drop> SessionStore<F> {
         }
     }
 
-    /// Whether they are held in flash.
+    /// Says whether they are held in flash.
     pub fn is_held(&self) -> bool
         ensures held { result ≡ self.now.held }
         ensures in_flash { result ≡ true → IsInFlash self.now.state }
@@ -111,14 +111,14 @@ impl<F: Flash + Drop> SessionStore<F> {
         !matches!(self.state, Some(State::Memory(_)))
     }
 
-    /// The flash, also where no session is held there.
+    /// Returns the flash, to look at.
     pub fn flash(&self) -> &F
         ensures { result.now ≡ self.now.flash }
     {
         &self.flash
     }
 
-    /// Gives the flash back.
+    /// Returns the flash.
     pub fn close(self) -> F
         ensures { result ≡ self.flash }
     {
@@ -131,7 +131,7 @@ impl<F: Flash + Drop> SessionStore<F> {
         flash
     }
 
-    /// Answers FragSessionSetupReq with all refusal bits: without one the session there stays, or gives way to a new one.
+    /// Takes a FragSessionSetupReq and returns all refusal bits; without one the session of that index stays or is replaced.
     pub fn setup(&mut self, req: SetupReq) -> Result<u8, FlashFault>
         requires up { IsUp self.old.state }
         requires fields { FieldsFit req }
@@ -160,7 +160,7 @@ impl<F: Flash + Drop> SessionStore<F> {
         }
     }
 
-    /// A session hears a fragment, or drops it.
+    /// Hears a fragment of a session, or drops it.
     pub fn fragment(
         &mut self,
         index: u8,
@@ -223,7 +223,7 @@ impl<F: Flash + Drop> SessionStore<F> {
         }
     }
 
-    /// What a session answers to a status request, if anything.
+    /// Answers a status request to a session; None where it has no answer.
     pub fn status(&self, index: u8, via: Via, all: bool) -> Option<StatusAns>
         requires { index < 4 }
         ensures value { (table : SessionTable) → StateStands self.now.state table
@@ -237,7 +237,7 @@ impl<F: Flash + Drop> SessionStore<F> {
         }
     }
 
-    /// What a session shows; None exactly where there is none, or all are down.
+    /// Returns what a session shows; None exactly where there is none, or all are down.
     pub fn view(&self, index: u8) -> Option<View<'_>>
         requires { index < 4 }
         ensures value { (table : SessionTable) → StateStands self.now.state table
@@ -252,7 +252,7 @@ impl<F: Flash + Drop> SessionStore<F> {
         }
     }
 
-    /// Which sessions had their file whole when they were last up: now, or when they went down.
+    /// Says which sessions have their file whole, or had it whole when they went down.
     pub fn flags(&self) -> CompleteFlags
         ensures { (flags : CompleteFlags) → HadWhole self.now.state flags → result ≡ flags }
     {
@@ -267,7 +267,7 @@ impl<F: Flash + Drop> SessionStore<F> {
         }
     }
 
-    /// Whether the file of a session is whole.
+    /// Says whether the file of a session is whole.
     #[tactic(auto, unfolding(frag_session::specs::HeldView::seen))]
     fn is_whole(&self, index: u8) -> bool
         requires { index < 4 }
@@ -280,7 +280,7 @@ impl<F: Flash + Drop> SessionStore<F> {
         }
     }
 
-    /// Says which had their file whole when they were last up, of sessions that are down.
+    /// Sets which sessions had their file whole when they were last up; the sessions are down.
     pub fn set_flags(&mut self, flags: CompleteFlags)
         requires { IsDown self.old.state }
         ensures { (idles : _) (was : _) → self.old.state ≡ Down idles was

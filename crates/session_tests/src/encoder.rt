@@ -57,8 +57,7 @@ fn a_size_that_makes_no_pieces_is_refused(rt: HostRuntime) {
     is_uncut(&rt, rt.alloc(), &[0; 4097], 1);
 }
 
-/// Fragment `n` of the file 11 22 33 44 55 in pieces of `frag_size` bytes is this; there is no such one where it is
-/// empty.
+/// Fragment `n` of the file 11 22 33 44 55 in pieces of `frag_size` bytes is this; there is none where it is empty.
 fn is_part(rt: &impl Abort, alloc: Global, frag_size: u8, n: u16, part: &[u8]) {
     let encoder = encoder(rt, alloc, &[0x11, 0x22, 0x33, 0x44, 0x55], frag_size);
     let mut out = ArrayVec::new();
@@ -132,7 +131,7 @@ fn is_bytes(out: &ArrayVec<u8, 239>, part: &[u8; 13]) -> bool {
     out.as_slice() == part.as_slice()
 }
 
-/// The fragment is this, which one that there is not leaves as it is.
+/// The fragment is this; one that doesn't exist leaves it unchanged.
 fn is_coded(rt: &impl Abort, encoder: &Encoder, n: u16, part: &[u8; 13]) {
     let mut out = ArrayVec::new();
     let is_made = encoder.fragment(n, &mut out).is_ok();

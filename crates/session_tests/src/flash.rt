@@ -106,7 +106,7 @@ fn make<F: Flash>(
     }
 }
 
-/// Calls one after another, none of which fails.
+/// Calls one after another; none of them fails.
 fn make_each<F: Flash>(rt: &impl Abort, held: SmallHeld, flash: &mut F, calls: &[Call]) -> SmallHeld
     requires base { held.base ≡ 0 }
     requires span { held.span ≡ SPAN }
@@ -137,7 +137,7 @@ fn shows(held: &SmallHeld) -> Shown {
     }
 }
 
-/// Memory for a flash of so many bytes, none of whose calls fails.
+/// Memory for a flash of so many bytes, whose calls never fail.
 fn memory(rt: &impl Abort, alloc: Global, size: u32, room: u32) -> MemFlash {
     match MemFlash::reserve(alloc, size, room, Vec::new(alloc)) {
         Ok(flash) => flash,
@@ -145,7 +145,7 @@ fn memory(rt: &impl Abort, alloc: Global, size: u32, room: u32) -> MemFlash {
     }
 }
 
-/// The same for a session from 0 on, of which no call is written down.
+/// The same for a session from 0 on, whose calls are not logged.
 fn cells(rt: &impl Abort, alloc: Global) -> CellFlash {
     match CellFlash::reserve(alloc, SPAN) {
         Ok(flash) => flash,
@@ -304,8 +304,8 @@ fn a_stop_leaves_what_was_or_what_comes(rt: HostRuntime) {
     }
 }
 
-/// A call after others that is stopped after a call of the flash that wrote a byte, which is not synced then, and what opens
-/// where that byte is left open, and where it is left as any other.
+/// A call after others that is stopped after a call of the flash that wrote a byte, not yet synced, and what opens where that
+/// byte is left open, and where it is left as any other.
 struct Torn<'a> {
     before: &'a [Call],
     last: Call,
@@ -333,7 +333,7 @@ static TORN: [Torn; 8] = [
         open: HEARD_TWO,
         shut: HEARD_ONE,
     },
-    // The gate of a fragment that tells nothing new.
+    // The gate of a fragment that is not new.
     Torn {
         before: &ONE,
         last: Call::Hear(1, 0x11),
@@ -590,7 +590,7 @@ fn is_deaf(rt: &impl Abort, flash: &mut CellFlash, held: SmallHeld) -> SmallIdle
     }
 }
 
-/// The last piece comes, and this is what it tells.
+/// The last piece comes, and this is its answer.
 fn hears_last(
     rt: &impl Abort,
     flash: &mut CellFlash,
@@ -773,7 +773,7 @@ fn fails_to_read(rt: &impl Abort, flash: &mut MemFlash) -> bool {
     flash.read(0, &mut [7; 4]).is_err()
 }
 
-/// Calls 2 and 6 fail, and those that the log has no room for.
+/// Calls 2 and 6 fail, and those for which the log has no room.
 fn fails_where_it_is_told_to(rt: &impl Abort, flash: &mut MemFlash) {
     assert!(rt; flash.size() == 8);
     assert!(rt; writes(rt, flash, 0, &[1, 2]));
@@ -786,7 +786,7 @@ fn fails_where_it_is_told_to(rt: &impl Abort, flash: &mut MemFlash) {
     assert!(rt; !syncs(flash));
 }
 
-/// The calls that fail: those that are listed, and those that the log has no room for.
+/// The calls that fail: those that are listed, and those for which the log has no room.
 #[test]
 fn a_flash_in_memory_fails_where_it_is_told_to(rt: HostRuntime) -> Result<(), Fail> {
     let fails = vec![in rt.alloc(); 2, 6]?;

@@ -252,7 +252,7 @@ static ONE_PIECE: [Row<'static>; 3] = [
     },
 ];
 
-/// Sessions of one piece, of which a coded fragment tells nothing.
+/// Sessions of one piece, for which a coded fragment is not new.
 #[test]
 fn over_one_piece_coded_lines_are_empty(rt: HostRuntime) {
     for row in &ONE_PIECE {
@@ -441,7 +441,7 @@ fn the_padding_is_no_part_of_the_file(rt: HostRuntime) {
     drop(slot);
 }
 
-/// What is answered after fragments, to a request that asks all, and whether one that asks for pieces missing is answered too.
+/// What is answered after fragments, to a request that asks all, and whether a request for missing pieces is answered too.
 struct Asked<'a> {
     rows: u16,
     fragments: &'a [(u16, u8)],

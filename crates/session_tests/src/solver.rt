@@ -10,7 +10,7 @@ use std::marker::Model;
 use std::process::Abort;
 use std::test::*;
 
-/// A solver with a file, so many pieces of so many bytes, and where it stands after what it answered.
+/// A solver with a file, so many pieces of so many bytes, and its stage after what it answered.
 #[derive(Drop)]
 struct Receiver<const W: usize, const B: usize> {
     solver: Solver<W, B>,
@@ -203,7 +203,7 @@ static FOUR: [Row<'static>; 12] = [
     },
 ];
 
-/// Solvers of one piece, of which a coded fragment tells nothing.
+/// Solvers of one piece, for which a coded fragment is not new.
 static ONE: [Row<'static>; 2] = [
     Row {
         rows: 1,
@@ -275,7 +275,7 @@ fn by_sums(
     (answer, (pieces as usize).saturating_sub(gain))
 }
 
-/// Feeds the fragments with these numbers, of which the last comes first, until something is decided.
+/// Feeds the fragments with these numbers, the last of them first, until something is decided.
 fn follows_sums(
     rt: &impl Abort,
     alloc: Global,
@@ -456,7 +456,7 @@ fn is_whole(block: &[u8], pieces: u16, size: u8) -> bool {
     true
 }
 
-/// Recovers a file of which each tenth piece comes by coded fragments alone.
+/// Recovers a file; each tenth piece of it comes only by coded fragments.
 fn recovers(rt: &impl Abort, alloc: Global, pieces: u16, size: u8) {
     let mut receiver = made(rt, alloc, pieces, size);
     feeds_most(rt, &mut receiver, pieces, size);

@@ -37,7 +37,7 @@ enum Call {
     Delete(u8),
 }
 
-/// A session that hears one fragment and ends at last, and beside it one whose file comes.
+/// A session that hears one fragment and ends at last, and another one whose file comes.
 static UPDATE: [Call; 8] = [
     Call::Setup(3),
     Call::Hear(3, 2, 0x55),
@@ -73,7 +73,7 @@ fn store(rt: &impl Abort, alloc: Global, flash: MemFlash, calls: u64) -> Store {
     }
 }
 
-/// The same over the flash of a store that is no more.
+/// The same over the flash of a store that has ended.
 fn over(rt: &impl Abort, alloc: Global, first: Store) -> Store {
     store(rt, alloc, first.close().inner(), ALL)
 }

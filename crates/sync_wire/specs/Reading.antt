@@ -1,5 +1,6 @@
 -- Between the table and the code: for each port and direction the command that a place's identifier names, and its end.
--- What commands are is said by the table alone; the reading of a payload computes with these, and is held to it by law.
+-- The table alone says what commands are. The reading of a payload computes with these functions, and a law holds it to the
+-- table.
 use Rattle.std.specs.Prelude.{ℕ, ◌+◌, ◌==◌, if◌then◌else◌, List, Some, None}
 use Rattle.std.specs.Int.{w32, cast_signed}
 use Rattle.wire_base.specs.declared.refusal.Direction.{Direction}
@@ -39,7 +40,7 @@ firmware_down bytes at =
     else if number_at bytes at 1 == 0x05 then within bytes at 5 (DevDeleteImageReq (number_at bytes (at + 1) 4))
     else None
 
--- a status that is 3 with the version after it, any other alone
+-- a status that is 3 with the version after it, any other without
 abbrev pub with_next : List ℕ → ℕ → Found Cmd
 with_next bytes at =
     if field bytes (at + 1) 1 0 2 == 3

@@ -1,5 +1,5 @@
 -- What a command's fields must be together, as a test; and one command of each row, which shows the known identifiers.
--- What commands are is said by the table alone; the reading of a payload computes with these, and is held to it by law.
+-- The table alone says what commands are. The reading of a payload computes with these tests, and a law holds it to the table.
 use Rattle.std.specs.Prelude.{ℕ, pos, Bool, true, false, ◌==◌, List, [], ◌∷◌, None, is_some}
 use Rattle.std.specs.Bool.{beq}
 use Rattle.std.specs.Int.{w32, int_wrap}

@@ -1,4 +1,4 @@
-/// A command with its fields. `specs/Table.antt` says how each lies in its bytes, numbers with the lowest byte first.
+/// A command with its fields. `specs/Table.antt` says where each is in its bytes; numbers have the lowest byte first.
 #[derive(Clone, Copy, Debug, PartialEq, Eq)]
 pub enum Cmd {
     /// From the server, on both ports: which package and version is there?
@@ -22,7 +22,7 @@ pub enum Cmd {
     },
     /// TS003-1.0.0, from the server.
     AppTimeAns {
-        /// TimeCorrection, the seconds that the device's clock is after; negative where it is ahead.
+        /// TimeCorrection, the seconds to be added to the device's clock; negative where it is fast.
         correction: i32,
         /// TokenAns, the token of the request that is answered, 0 to 15.
         token: u8,
@@ -56,7 +56,7 @@ pub enum Cmd {
     },
     /// TS006-1.0.0, from the server.
     DevRebootTimeReq {
-        /// The moment of the reboot in seconds of the device's clock; 0 is at once, all ones cancels.
+        /// The moment of the reboot in seconds of the device's clock; 0 is at once, all ones cancel it.
         time: u32,
     },
     /// TS006-1.0.0, from the device.
@@ -66,7 +66,7 @@ pub enum Cmd {
     },
     /// TS006-1.0.0, from the server.
     DevRebootCountdownReq {
-        /// The seconds until the reboot, below 2^24; 0 is at once, all ones cancels.
+        /// The seconds until the reboot, below 2^24; 0 is at once, all ones cancel it.
         count: u32,
     },
     /// TS006-1.0.0, from the device.

@@ -7,7 +7,7 @@ ghost use Rattle.sync_wire.specs.declared.cmd.Cmd.{Cmd};
 ghost use Rattle.sync_wire.specs.Table.{row, Spells, IsValid, canonical};
 ghost use Rattle.sync_wire.specs.WorkedSpellings.{WorkedSpellings};
 
-/// What is written is read again, whatever stands before it and follows.
+/// A command that is written is read again, whatever stands before it and follows.
 pub fn written_is_read()
     ensures { (c : Cmd) (port : ℕ) (dir : Direction) (before after : List ℕ)
         → IsValid c → IsListed (row c) port dir
@@ -15,7 +15,7 @@ pub fn written_is_read()
         (length before) (length before + length (canonical c)) }
 {}
 
-/// At a place one command is spelled at most, with one end.
+/// At most one command is spelled at a place, with one end.
 pub fn place_has_one_spelling()
     ensures { (c d : Cmd) (port : ℕ) (dir : Direction) (bytes : List ℕ) (at next end : ℕ)
         → Spells c port dir bytes at next → Spells d port dir bytes at end
@@ -29,7 +29,7 @@ pub fn no_spelling_begins_another()
         → Spells d port dir (bytes ++ more) 0 (length (bytes ++ more)) → more ≡ [] }
 {}
 
-/// Where each command is sent and the bytes that are written for it, worked out.
+/// Where each command is sent, and the bytes that are written for it, worked out.
 pub fn worked_spellings()
     ensures { WorkedSpellings }
 {}

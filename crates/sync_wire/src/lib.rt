@@ -1,8 +1,7 @@
-//! The commands of clock synchronization (TS003-1.0.0, port 202) and firmware management (TS006-1.0.0, port 203),
-//! one by one, as values and as bytes.
-//! A command is answered exactly where its bytes spell it by the row of `specs/Table.antt`, any other place is
-//! refused with its cause, and a valid command is written in its canonical spelling, whole or not at all.
-//! Payloads of several commands, the other packages and what a command does are left to the crates above.
+//! The commands of clock synchronization (TS003-1.0.0, port 202) and firmware management (TS006-1.0.0, port 203), one by one, as
+//! values and as bytes. A command is read exactly where its bytes spell it by its row of `specs/Table.antt`; any other place is
+//! refused with its cause. A valid command is written in its canonical spelling, whole or not at all. Payloads of several
+//! commands, the other packages and what a command does are left to the crates above.
 //!
 //!     let request = Cmd::AppTimeReq { time, required: true, token: 3 };
 //!     let mut payload = Payload::new();

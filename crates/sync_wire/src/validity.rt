@@ -4,7 +4,7 @@ ghost use Rattle.sync_wire.specs.Table.{IsValid};
 use crate::cmd::Cmd;
 use crate::ids::STATUS_VALID;
 
-/// Whether each field fits its bits, and the fields fit together.
+/// Says whether each field fits its bits, and the fields fit together.
 // Fields that fill their bytes are bound too, so that their ranges are known.
 pub fn valid(cmd: &Cmd) -> bool
     ensures { IsTrue result ↔ IsValid cmd.now }

@@ -1,4 +1,4 @@
--- Commands that were written lie where they were written, and lie there still when more is put after.
+-- Commands that were written are at their places, and are still there when more bytes are put after them.
 use Rattle.std.proofs.Common.{◌≡◌, ℕ, ◌+◌, ◌-◌, ◌*◌, ◌/◌, ◌%◌, ◌^◌, ◌<◌, ◌≤◌, true, false, List, [], ◌∷◌, ◌++◌, length, get_or, refl, sym, ap, subst, ◌∙◌, append_assoc, arith, length-append, leb}
 use Rattle.std.proofs.lemmas.Bool.{and_parts, leb-true}
 use Rattle.std.proofs.lemmas.List.{append-nil, drop_at, get_or-append-add, get_or_append_left}
@@ -22,7 +22,7 @@ packed_below limit (b ∷ bs) apart fit =
     let wide : 2 ^ (b.count + b.low) ≤ 2 ^ limit = pow_mono room in
     omega arith
 
--- fields that are packed stand in their bits, whatever stands above them
+-- fields that are packed are in their bits, whatever is above them
 packed_lie : (limit : ℕ) (fields : List Bits) (high : ℕ) → are_apart limit fields ≡ true → BitsFit fields → BitsLie (high * 2 ^ limit + packed_number fields) fields
 packed_lie limit [] high apart fit = tt
 packed_lie limit (b ∷ bs) high apart fit =
@@ -58,7 +58,7 @@ packed_lies width fields before after at is apart fit =
 
 -- ---- the parts of a body
 
--- the front part lies there, and the others lie after it
+-- the front part is there, and the others come after it
 joined : (p : Part) (ps : List Part) (before after : List ℕ) (at skip next : ℕ) → length before ≡ at + skip
     → PartLies (before ++ (part_bytes p ++ (parts_bytes ps ++ after))) (at + skip) p
     → ((front : List ℕ) → length front ≡ at + (skip + size p) → PartsLie (front ++ (parts_bytes ps ++ after)) at (skip + size p) ps next)
@@ -110,14 +110,14 @@ row_written row before after formed fit small alone =
 
 -- ---- more bytes after
 
--- parts that lie there end within the bytes, and not before their place
+-- parts that are there end within the bytes, and not before their place
 pub parts_before : (ps : List Part) (bytes : List ℕ) (at skip next : ℕ) → PartsLie bytes at skip ps next → (next ≤ length bytes) × (at + skip ≤ next)
 parts_before [] bytes at skip next lie = (lie.1, omega (arith, lie.0))
 parts_before (p ∷ ps) bytes at skip next lie =
     let later = parts_before ps bytes at (skip + size p) next lie.1 in
     (later.0, omega (arith, later.1))
 
--- the parts of p ∷ ps lie there, so p ends within the bytes
+-- the parts of p ∷ ps are there, so p ends within the bytes
 part_within : (p : Part) (ps : List Part) (bytes : List ℕ) (at skip next : ℕ) → PartsLie bytes at skip (p ∷ ps) next → at + skip + size p ≤ length bytes
 part_within p ps bytes at skip next lie =
     let later = parts_before ps bytes at (skip + size p) next lie.1 in

@@ -30,7 +30,7 @@ bits_fit : (n : ℕ) (fields : List Bits) → BitsLie n fields → BitsFit field
 bits_fit n [] lie = tt
 bits_fit n (b ∷ bs) lie = (subst (λ (v : ℕ). v < 2 ^ b.count) lie.0 (mod_below (n / 2 ^ b.low) (2 ^ b.count) (pow_pos b.count)), bits_fit n bs lie.1)
 
--- parts that lie in bytes fit the bits that they have
+-- parts that are in bytes fit the bits that they have
 parts_fit : (bytes : List ℕ) → AreBytes bytes → (at skip : ℕ) (parts : List Part) (next : ℕ) → PartsLie bytes at skip parts next → PartsFit parts
 parts_fit bytes small at skip [] next lie = tt
 parts_fit bytes small at skip (number width value ∷ ps) next lie =

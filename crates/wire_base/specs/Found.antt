@@ -1,5 +1,6 @@
 -- Between a table and the code: the command that a place's identifier names, and its end.
--- What commands are is said by the tables alone; the reading of a payload computes with these, and is held to the tables by law.
+-- The tables alone say what commands are. The reading of a payload computes with these functions, and a law holds it to the
+-- tables.
 use Rattle.std.specs.Prelude.{ℕ, ◌+◌, Bool, nat_le, if◌then◌else◌, List, length, Option, Some, None}
 use Rattle.wire_base.specs.Numbers.{number_at, bits_of, has_bit}
 

@@ -1,7 +1,7 @@
 -- Numbers of several bytes, lowest byte first, and the bits of one field within such a number.
 use Rattle.std.specs.Prelude.{ℕ, zero, suc, ◌+◌, ◌*◌, ◌/◌, ◌%◌, ◌^◌, Bool, ◌==◌, if◌then◌else◌, List, [], ◌∷◌, slice_index}
 
--- the number that lies in so many bytes from a place on
+-- the number in so many bytes from a place on
 unfoldable pub number_at : List ℕ → (at width : ℕ) → ℕ
 number_at bytes at zero = 0
 number_at bytes at (suc width) = slice_index bytes at + 256 * number_at bytes (at + 1) width
@@ -11,7 +11,7 @@ abbrev pub number_bytes : (width n : ℕ) → List ℕ
 number_bytes zero n = []
 number_bytes (suc width) n = n % 256 ∷ number_bytes width (n / 256)
 
--- the number that stands in the bits of n from low on, so many
+-- the number in the bits of n from low on, so many
 abbrev pub bits_of : (n low count : ℕ) → ℕ
 bits_of n low count = n / 2 ^ low % 2 ^ count
 

@@ -1,4 +1,4 @@
--- Rows of a command table: how a command lies in a payload, how it is written, and which values its fields have.
+-- Rows of a command table: where a command is in a payload, how it is written, and which values its fields have.
 use Rattle.std.specs.Prelude.{◌≡◌, ℕ, ◌+◌, ◌-◌, ◌*◌, ◌^◌, ◌<◌, ◌≤◌, Bool, true, false, ◌&&◌, nat_le, List, [], ◌∷◌, ◌++◌, length, drop, slice_index, ◌⊎◌}
 use Rattle.wire_base.specs.declared.refusal.Direction.{Direction}
 use Rattle.wire_base.specs.declared.refusal.Direction.TheVariants.{Down, Up}
@@ -55,7 +55,7 @@ abbrev pub BitsLie : ℕ → List Bits → Type 0
 BitsLie n [] = Unit {0}
 BitsLie n (b ∷ bs) = (bits_of n b.low b.count ≡ b.value) × BitsLie n bs
 
--- the part lies in the bytes from a place on
+-- the part is in the bytes from a place on
 abbrev pub PartLies : List ℕ → ℕ → Part → Type 0
 PartLies bytes at (number width value) = number_at bytes at width ≡ value
 PartLies bytes at (packed width fields) = BitsLie (number_at bytes at width) fields
@@ -63,7 +63,7 @@ PartLies bytes at (block block_bytes) =
     (k : ℕ) → k < length block_bytes → slice_index bytes (at + k) ≡ slice_index block_bytes k
 PartLies bytes at (rest rest_bytes) = drop at bytes ≡ rest_bytes
 
--- the parts lie one after another, the first skip bytes after a place, and the last ends at next
+-- the parts follow one another, the first skip bytes after a place, and the last ends at next
 abbrev pub PartsLie : List ℕ → (at skip : ℕ) → List Part → ℕ → Type 0
 PartsLie bytes at skip [] next = (next ≡ at + skip) × (next ≤ length bytes)
 PartsLie bytes at skip (p ∷ ps) next = PartLies bytes (at + skip) p × PartsLie bytes at (skip + size p) ps next
@@ -79,7 +79,7 @@ pub record IsListed (row : Row) (port : ℕ) (direction : Direction) : Type 0 wh
   pub port_is : IsOneOf row.ports port
   pub direction_is : direction ≡ row.direction
 
--- the command lies in the bytes from a place to the next
+-- the command is in the bytes from a place to the next
 pub record Lies (row : Row) (bytes : List ℕ) (at next : ℕ) : Type 0 where
   pub cid_is : number_at bytes at 1 ≡ row.cid
   pub parts_lie : PartsLie bytes at 1 row.parts next

@@ -1,6 +1,6 @@
 -- What a table of commands says: which are valid, which bytes of a payload spell one, and why a place is refused.
--- It is said once for every table: by the row of each command, by what a command's fields must be together, and by the
--- ports that the table is for.
+-- It is said once for every table, by three things: each command's row, what a command's fields must be together, and the ports
+-- that the table is for.
 use Rattle.std.specs.Prelude.{◌≡◌, ℕ, ◌<◌, ◌≤◌, List, length}
 use Rattle.wire_base.specs.declared.refusal.Direction.{Direction}
 use Rattle.wire_base.specs.declared.refusal.Refusal.{Refusal}

@@ -1,7 +1,7 @@
-//! The bytes below every application-layer command of a LoRaWAN device (TS003 to TS006, 1.0.0): little-endian
-//! numbers at places of a payload, payloads of at most 242 bytes, and why a payload is refused.
-//! The number that was put at a place is the number that is read there, and a put without room changes nothing.
-//! Which commands there are is left to the crates above, which write their tables as rows of `specs/Rows.antt`.
+//! The bytes of every application-layer command of a LoRaWAN device (TS003 to TS006, 1.0.0): little-endian numbers at places of a
+//! payload, payloads of at most 242 bytes, and why a payload is refused. A number that is put at a place is read back from there,
+//! and a put without room changes nothing. Which commands there are is left to the crates above, which write their tables as rows
+//! of `specs/Rows.antt`.
 //!
 //!     let mut payload = Payload::new();
 //!     put_u8(&mut payload, 0x01)?;              // `Full` where 242 bytes are there

@@ -6,7 +6,7 @@ ghost use Rattle.wire_base.specs.Numbers.{number_at, number_bytes, flag_value};
 
 use crate::payload::{Full, Payload};
 
-/// The byte at a place.
+/// Returns the byte at a place.
 #[tactic(auto, unfolding(crate::specs::Numbers::number_at))]
 pub fn u8_at(bytes: &[u8], at: u16) -> u8
     requires { at < length bytes.now }
@@ -15,7 +15,7 @@ pub fn u8_at(bytes: &[u8], at: u16) -> u8
     bytes[at as usize]
 }
 
-/// The number of two bytes at a place, the lower byte first.
+/// Returns the number of two bytes at a place, the lower byte first.
 #[tactic(auto, unfolding(crate::specs::Numbers::number_at))]
 pub fn u16_at(bytes: &[u8], at: u16) -> u16
     requires { at + 2 ≤ length bytes.now }
@@ -25,7 +25,7 @@ pub fn u16_at(bytes: &[u8], at: u16) -> u16
     u16::from_le_bytes([bytes[at], bytes[at + 1]])
 }
 
-/// The number of three bytes at a place, the lowest byte first.
+/// Returns the number of three bytes at a place, the lowest byte first.
 #[tactic(auto, unfolding(crate::specs::Numbers::number_at))]
 pub fn u24_at(bytes: &[u8], at: u16) -> u32
     requires { at + 3 ≤ length bytes.now }
@@ -36,7 +36,7 @@ pub fn u24_at(bytes: &[u8], at: u16) -> u32
     u32::from_le_bytes([bytes[at], bytes[at + 1], bytes[at + 2], 0])
 }
 
-/// The number of four bytes at a place, the lowest byte first.
+/// Returns the number of four bytes at a place, the lowest byte first.
 #[tactic(auto, unfolding(crate::specs::Numbers::number_at))]
 pub fn u32_at(bytes: &[u8], at: u16) -> u32
     requires { at + 4 ≤ length bytes.now }
@@ -46,21 +46,21 @@ pub fn u32_at(bytes: &[u8], at: u16) -> u32
     u32::from_le_bytes([bytes[at], bytes[at + 1], bytes[at + 2], bytes[at + 3]])
 }
 
-/// Puts one byte at the end.
+/// Puts one byte at the end; `Full`, with nothing changed, where there is no room.
 pub fn put_u8(out: &mut Payload, v: u8) -> Result<(), Full>
     ensures { Appends out.old out.new (number_bytes 1 v) result }
 {
     out.append(&[v])
 }
 
-/// Puts two bytes at the end, the lower first.
+/// Puts two bytes at the end, the lower first; `Full`, with nothing changed, where there is no room.
 pub fn put_u16(out: &mut Payload, v: u16) -> Result<(), Full>
     ensures { Appends out.old out.new (number_bytes 2 v) result }
 {
     out.append(&v.to_le_bytes())
 }
 
-/// Puts three bytes at the end, the lowest first.
+/// Puts three bytes at the end, the lowest first; `Full`, with nothing changed, where there is no room.
 pub fn put_u24(out: &mut Payload, v: u32) -> Result<(), Full>
     requires { v < 2 ^ 24 }
     ensures { Appends out.old out.new (number_bytes 3 v) result }
@@ -69,14 +69,14 @@ pub fn put_u24(out: &mut Payload, v: u32) -> Result<(), Full>
     out.append(&[low, middle, high])
 }
 
-/// Puts four bytes at the end, the lowest first.
+/// Puts four bytes at the end, the lowest first; `Full`, with nothing changed, where there is no room.
 pub fn put_u32(out: &mut Payload, v: u32) -> Result<(), Full>
     ensures { Appends out.old out.new (number_bytes 4 v) result }
 {
     out.append(&v.to_le_bytes())
 }
 
-/// The value of a flag: that of its bit where it is set, else 0.
+/// Returns the value of a flag: that of its bit where it is set, else 0.
 pub fn flag_value(set: bool, value: u8) -> u8
     ensures value { result ≡ flag_value set value }
     ensures most { result ≤ value }

@@ -15,7 +15,7 @@ pub const MAX_PAYLOAD: usize = 242;
 #[error("the payload has too few free bytes")]
 pub struct Full;
 
-/// The bytes of one frame, at most `MAX_PAYLOAD`. They lie in the value itself. Contracts see their list.
+/// The bytes of one frame, at most `MAX_PAYLOAD`, held in the value itself. Contracts see their list.
 #[derive(Debug, Drop, PartialEq)]
 pub struct Payload {
     bytes: ArrayVec<u8, MAX_PAYLOAD>,
@@ -35,7 +35,7 @@ impl Model for Payload {
 }
 
 impl Payload {
-    /// A payload without bytes.
+    /// Makes a payload without bytes.
     pub fn new() -> Self
         ensures { result ≡ [] }
     {
@@ -44,18 +44,18 @@ impl Payload {
         }
     }
 
-    /// A payload of these bytes.
+    /// Makes a payload of these bytes.
     pub fn from_slice(bytes: &[u8]) -> Self
         requires { length bytes.now ≤ max_payload }
         ensures { result ≡ bytes.now }
     {
         let mut payload = Payload::new();
-        // (an empty payload has room, as is asked for)
+        // (an empty payload has room, as the contract asks)
         let _fits = payload.append(bytes);
         payload
     }
 
-    /// The number of bytes.
+    /// Returns the number of bytes.
     pub fn len(&self) -> usize
         ensures number { result ≡ length self.now }
         ensures within { length self.now ≤ max_payload }
@@ -63,21 +63,21 @@ impl Payload {
         self.bytes.len()
     }
 
-    /// Whether there are no bytes.
+    /// Says whether there are no bytes.
     pub fn is_empty(&self) -> bool
         ensures { IsTrue result ↔ (length self.now ≡ 0) }
     {
         self.bytes.is_empty()
     }
 
-    /// How many bytes are free.
+    /// Returns how many bytes are free.
     pub fn room(&self) -> usize
         ensures { result ≡ max_payload - length self.now }
     {
         MAX_PAYLOAD - self.bytes.len()
     }
 
-    /// The bytes.
+    /// Returns the bytes.
     pub fn as_slice(&self) -> &[u8]
         ensures value { result.now ≡ self.now }
         ensures within { length result.now ≤ max_payload }
@@ -85,14 +85,15 @@ impl Payload {
         self.bytes.as_slice()
     }
 
-    /// A second payload of the same bytes, which takes no memory.
+    /// Makes a second payload of the same bytes; it takes no memory.
     pub fn copied(&self) -> Self
         ensures { result ≡ self.now }
     {
         Payload::from_slice(self.as_slice())
     }
 
-    /// Puts the bytes after those that are there; where they don't fit in what is left of the 242 nothing changes.
+    /// Puts the bytes after those that are there; `Full`, with nothing changed, where they don't fit into what is left of the
+    /// 242.
     pub fn append(&mut self, bytes: &[u8]) -> Result<(), Full>
         ensures { Appends self.old self.new bytes.now result }
     {

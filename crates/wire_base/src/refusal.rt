@@ -32,7 +32,7 @@ pub enum Why {
     TooLong,
 }
 
-/// A payload is refused at a place, counted in bytes from 0.
+/// Why a payload is refused, and at which place, counted in bytes from 0.
 #[derive(Clone, Copy, Debug, PartialEq, Eq, Error)]
 #[error("byte {at}: {why}")]
 pub struct Refusal {
@@ -42,7 +42,7 @@ pub struct Refusal {
 }
 
 impl Refusal {
-    /// The port carries no package that the reader knows.
+    /// Makes the refusal of a port that carries no package that the reader knows.
     pub fn port() -> Self
         ensures { result ≡ record { at = 0; why = Why.Port } }
     {
@@ -52,7 +52,7 @@ impl Refusal {
         }
     }
 
-    /// The identifier at this place isn't in the table.
+    /// Makes the refusal of an identifier at this place that isn't in the table.
     pub fn unknown(at: u16) -> Self
         ensures { result ≡ record { at = at; why = Why.UnknownCommand } }
     {
@@ -62,7 +62,7 @@ impl Refusal {
         }
     }
 
-    /// These bytes end within a command.
+    /// Makes the refusal of bytes that end within a command.
     pub fn short(bytes: &[u8]) -> Self
         requires { length bytes.now ≤ max_payload }
         ensures { result ≡ record { at = length bytes.now; why = Why.Short } }
@@ -73,7 +73,7 @@ impl Refusal {
         }
     }
 
-    /// The payload has more bytes than `MAX_PAYLOAD`.
+    /// Makes the refusal of a payload with more than `MAX_PAYLOAD` bytes.
     pub fn too_long() -> Self
         ensures { result ≡ record { at = max_payload; why = Why.TooLong } }
     {

@@ -1,4 +1,5 @@
-//! A campaign beside another one: what is asked of it, and a payload of the other's that reaches one of its devices.
+//! A campaign next to another one: what the other asks of it, and a payload of the other's server that reaches one of its
+//! devices.
 
 ghost use Rattle.std.specs.Prelude.{◌≡◌, ◌≤◌, ◌<◌, ◌^◌, true, false, None, Some, Ok, length, IfErr, IfOk, IfSome, OnErr, OnOk, string_bytes};
 ghost use Rattle.wire_base.specs.Numbered.{numbered};
@@ -23,14 +24,14 @@ impl World {
     ghost use Rattle.report_lines.specs.declared.faults.LineError.{LineError};
     ghost use Rattle.campaign_world.specs.HeldWorld.{WorldStands, WorldBecomes, KeepsEnds};
 
-    /// What may come next.
+    /// Returns what may come next.
     pub fn section(&self) -> Section
         ensures { result ≡ self.now.section }
     {
         self.phase.section()
     }
 
-    /// How many devices there are, at most 64.
+    /// Returns how many devices there are, at most 64.
     pub fn count(&self) -> usize
         ensures count { result ≡ length self.now.devices }
         ensures few { result ≤ max_devices }
@@ -38,7 +39,7 @@ impl World {
         self.phase.count()
     }
 
-    /// How many of them have a flash.
+    /// Returns how many of them have a flash.
     pub fn flash_count(&self) -> usize
         ensures count { result ≡ length self.now.flash }
         ensures few { result < 2 ^ 63 }
@@ -46,7 +47,7 @@ impl World {
         self.phase.flash().len()
     }
 
-    /// What its server is to do, as far as it is planned.
+    /// Returns the plan of its server, as far as its lines have come.
     pub fn plan(&self) -> &Plan
         ensures { result.now ≡ self.now.server.plan }
     {
@@ -56,7 +57,7 @@ impl World {
         }
     }
 
-    /// The server, from the first event on.
+    /// Returns the server, from the first event on; None before.
     pub fn server(&self) -> Option<&Server>
         ensures found { IfSome result (λ server. server.now ≡ self.now.server) }
         ensures none { result ≡ None → has_begun self.now.section ≡ false }
@@ -67,15 +68,15 @@ impl World {
         }
     }
 
-    /// The sent payload with a number, counted from 1; None where none has it.
+    /// Returns the sent payload with a number, counted from 1; None where none has it.
     pub fn sent(&self, number: u64) -> Option<SentPayload<'_>>
         ensures { result ≡ numbered self.now.sent number }
     {
         self.phase.sent(number)
     }
 
-    /// A payload of another campaign's server reaches a device, by a line of the script. Where memory is missing devices and
-    /// server are as they were.
+    /// Takes a payload of another campaign's server to a device, as a line of the script. Where memory is missing, devices and
+    /// server are unchanged.
     pub fn reach(&mut self, device: u8, down: &DownlinkRef<'_>, word: u32) -> Result<(), LineError>
         requires comes { takes_events self.old.section ≡ true }
         requires first { 1 ≤ device }
@@ -99,7 +100,7 @@ impl World {
         }
     }
 
-    /// The report's lines of a device, counted from 1, under a name; none where there is no such device.
+    /// Makes the report's lines of a device, counted from 1, under a name; none where there is no such device.
     pub fn device_lines(&self, alloc: Global, number: u64, name: &str) -> Result<String, AllocError>
         requires { has_begun self.now.section ≡ true }
         ensures { (world : WorldState) → WorldStands self.now world

@@ -30,15 +30,15 @@ use script_lines::{Form, HexBytes};
 use std::alloc::{AllocError, Global};
 use std::marker::Model;
 
-/// A campaign that plays: its server and its devices, what was sent, and what came up.
+/// A campaign that plays: its server and its devices, what was sent, and which uplinks were made.
 #[derive(Drop)]
 pub struct Campaign {
     pub(super) alloc: Global,
-    /// In ms.
+    /// The time now, in ms since the GPS epoch.
     pub(super) time: u64,
     pub(super) server: Server,
     pub(super) devices: Vec<LateDevice>,
-    /// Those of them that have a flash, by their IDs.
+    /// The IDs of the devices that have a flash.
     pub(super) flash: Vec<u64>,
     pub(super) sent: SentLog,
     pub(super) uplinks: UplinkLog,
@@ -65,7 +65,7 @@ impl Model for Campaign {
 impl Campaign {
     ghost use Rattle.campaign_world.specs.HeldWorld.{DevicesRest, Plays, SameEnds, IsTested};
 
-    /// A campaign in which no event came yet.
+    /// Makes a campaign without an event.
     pub fn new(alloc: Global, server: Server, devices: Vec<LateDevice>, flash: Vec<u64>) -> Self
         requires image { is_image server.image ≡ true }
         requires few { length devices.items ≤ max_devices }
@@ -100,7 +100,7 @@ impl Campaign {
             (λ world. at_events (after_form world form.now)) }
         ensures ends { OnErr result (SameEnds self.old self.new) }
     {
-        // a field that is read tells of all what is true of them: that the devices are few
+        // reading a field makes known what is true of all of them: that the devices are few
         let _few = &self.alloc;
         match form {
             Form::At { time } => {
@@ -139,8 +139,8 @@ impl Campaign {
         }
     }
 
-    /// An event happens at a device, whose uplinks are then numbered, oldest first. Each caller knows its event, so that no
-    /// match on it is left in the built code.
+    /// Makes an event happen at a device, and numbers its uplinks, oldest first. Each caller knows its event, so that no match on
+    /// it is left in the built code.
     #[inline(always)]
     fn happen(&mut self, device: u8, event: &Event<'_>) -> Result<(), AllocError>
         requires first { 1 ≤ device }
@@ -158,7 +158,7 @@ impl Campaign {
         )
     }
 
-    /// The same of a rarer event. It stands alone, so that there is one body for all of them.
+    /// The same for rarer events. It is a function by itself, so that they all share one body.
     #[inline(never)]
     fn happen_rarely(&mut self, device: u8, event: &Event<'_>) -> Result<(), AllocError>
         requires first { 1 ≤ device }
@@ -219,7 +219,7 @@ impl Campaign {
         )
     }
 
-    /// Anybody's payload reaches a device. It is no sent payload, and has no number.
+    /// Takes anybody's payload to a device. It is no sent payload, and has no number.
     pub fn raw(
         &mut self,
         lines: u32,
@@ -238,7 +238,7 @@ impl Campaign {
         self.happen(device, &Event::Deliver(down, moment))
     }
 
-    /// The same of a payload that a line says. It stands alone, so that no other event keeps room for its bytes.
+    /// The same for a payload in a line. It is a function by itself, so that no other event keeps room for its bytes.
     #[inline(never)]
     fn raw_form(
         &mut self,
@@ -262,7 +262,8 @@ impl Campaign {
         self.raw(lines, device, &down, word)
     }
 
-    /// Sent payload S reaches the radio of a device as its frame. It stands alone, so that no other event keeps room for it.
+    /// Sent payload S reaches the radio of a device as its frame. It is a function by itself, so that no other event keeps room
+    /// for it.
     #[inline(never)]
     fn air(&mut self, lines: u32, number: u64, device: u8, word: u32) -> Result<(), AllocError>
         requires first { 1 ≤ device }
@@ -279,7 +280,7 @@ impl Campaign {
         }
     }
 
-    /// Anybody's bytes reach the radio of a device. It stands alone, so that no other event keeps room for them.
+    /// Anybody's bytes reach the radio of a device. It is a function by itself, so that no other event keeps room for them.
     #[inline(never)]
     fn raw_air(
         &mut self,
@@ -313,7 +314,7 @@ impl Campaign {
         self.happen_rarely(device, &Event::Radio(bytes, moment))
     }
 
-    /// The uplink with a number, counted from 1; None where none has it.
+    /// Returns the uplink with a number, counted from 1; None where none has it.
     pub fn uplink(&self, number: u64) -> Option<UplinkRef<'_>>
         ensures found { result
             ≡ option_map (λ made. made.uplink) (numbered self.now.uplinks number) }
@@ -325,7 +326,7 @@ impl Campaign {
         }
     }
 
-    /// The report's lines of a device, counted from 1, under a name; none where there is no such device.
+    /// Makes the report's lines of a device, counted from 1, under a name; none where there is no such device.
     pub fn device_lines(&self, alloc: Global, number: u64, name: &str) -> Result<String, AllocError>
         ensures { (ds : List DeviceState) → DevicesRest self.now.devices ds → IfOk result
             (λ text. string_bytes text ≡ numbered_lines name.now number self.now.server ds) }
@@ -341,7 +342,7 @@ impl Campaign {
         device_part(alloc, self.server.image(), name, stage, device)
     }
 
-    /// The report of what was played.
+    /// Makes the report of what was played.
     pub fn report(&self, alloc: Global) -> Result<Vec<u8>, AllocError>
         ensures { (ds : List DeviceState) → DevicesRest self.now.devices ds
             → IfOk result (λ text. text.items ≡ report_with self.now.server ds) }
@@ -349,7 +350,7 @@ impl Campaign {
         report(alloc, &self.server, &self.devices)
     }
 
-    /// The summary of what was played.
+    /// Makes the summary of what was played.
     pub fn summary(&self, alloc: Global) -> Result<Vec<u8>, AllocError>
         ensures { (ds : List DeviceState) → DevicesRest self.now.devices ds → IfOk result
             (λ text. text.items ≡ summary_with self.now.server (length self.now.sent) ds) }

@@ -1,4 +1,4 @@
-//! The first cause for which a form is refused. Of each form only the causes that it can have are tried, in their order.
+//! The first cause for which a form is refused. For each form only the causes that it can have are tried, in their order.
 
 ghost use Rattle.std.specs.Prelude.{◌≡◌, None, length, option_map};
 ghost use Rattle.wire_base.specs.Numbered.{numbered};
@@ -48,9 +48,9 @@ impl Campaign {
     }
 }
 
-/// The first cause for which a form is refused where events come: there are so many devices, those with these IDs have a
-/// flash, and the time is this in ms. There is no campaign before the first event. It is inlined, so that of an event only
-/// that is read which its form is tested against.
+/// The first cause for which a form is refused where events come: there are so many devices, those with these IDs have a flash,
+/// and the time is this in ms. There is no campaign before the first event. It is inlined, so that only those parts of an event
+/// are read that its form is tested against.
 #[inline(always)]
 fn event_cause(
     count: usize,
@@ -97,7 +97,7 @@ fn event_cause(
     }
 }
 
-/// Of one that names a device and no more.
+/// The cause of a form that only names a device.
 fn device_cause(count: usize, device: u64) -> Option<LineWhy>
     ensures { result ≡ device_cause count device }
 {

@@ -19,7 +19,7 @@ use package_grammar::DownlinkRef;
 use script_lines::Form;
 use std::alloc::{AllocError, Global};
 
-/// The plan as long as its lines come, and the campaign from the first event on, or from the end.
+/// The plan while its lines come, and the campaign from the first event on, or from the end.
 #[derive(Drop)]
 pub enum Phase {
     Planning(Planning),
@@ -31,8 +31,8 @@ impl Phase {
     ghost use Rattle.campaign_world.specs.HeldWorld.{SameEnds, IsTested};
     ghost use Rattle.campaign_world.specs.PhaseInside.{IsPhase, PhaseTakes, held_of, section_of};
 
-    /// Carries out a form after so many lines: a line of the plan, or an event, the first of which begins the campaign.
-    /// All memory that it needs is taken before a device or the server is called.
+    /// Carries out a form after so many lines: a line of the plan, or an event, the first of which begins the campaign. All
+    /// memory that it needs is taken before a device or the server is called.
     pub fn take(&mut self, alloc: Global, lines: u32, form: &Form) -> Result<(), AllocError>
         requires phase { IsPhase self.old }
         requires in_order { is_in_order (section_of self.old) form.now ≡ true }
@@ -55,7 +55,7 @@ impl Phase {
         }
     }
 
-    /// The same where the campaign has not begun. It stands alone, so that no event sees to the room for a whole campaign.
+    /// The same where the campaign has not begun. It is a function by itself, so that no event makes room for a whole campaign.
     #[inline(never)]
     fn plan(&mut self, alloc: Global, lines: u32, form: &Form) -> Result<(), AllocError>
         requires planned { is_planned self.old ≡ true }
@@ -86,8 +86,8 @@ impl Phase {
         played
     }
 
-    /// A payload of another campaign's server reaches a device, after so many lines. It may be the first event. All memory
-    /// that it needs is taken before the device is called.
+    /// Takes a payload of another campaign's server to a device, after so many lines. It may be the first event. All memory that
+    /// it needs is taken before the device is called.
     pub fn reach(
         &mut self,
         alloc: Global,
@@ -123,7 +123,7 @@ impl Phase {
         }
     }
 
-    /// What may come next.
+    /// Returns what may come next.
     pub fn section(&self) -> Section
         ensures { result ≡ section_of self.now }
     {
@@ -133,7 +133,7 @@ impl Phase {
         }
     }
 
-    /// How many devices there are.
+    /// Returns how many devices there are.
     pub fn count(&self) -> usize
         requires { IsPhase self.now }
         ensures count { result ≡ length (held_of self.now).devices }
@@ -145,7 +145,7 @@ impl Phase {
         }
     }
 
-    /// Those of the devices that have a flash.
+    /// Returns the IDs of the devices that have a flash.
     pub fn flash(&self) -> &[u64]
         ensures { result.now ≡ (held_of self.now).flash }
     {
@@ -155,7 +155,7 @@ impl Phase {
         }
     }
 
-    /// The sent payload with a number, counted from 1; None where none has it.
+    /// Returns the sent payload with a number, counted from 1; None where none has it.
     pub fn sent(&self, number: u64) -> Option<SentPayload<'_>>
         ensures { result ≡ numbered (held_of self.now).sent number }
     {
@@ -165,7 +165,7 @@ impl Phase {
         }
     }
 
-    /// The devices so far.
+    /// Returns the devices so far.
     pub fn devices(&self) -> &[LateDevice]
         ensures { result.now ≡ (held_of self.now).devices }
     {

@@ -1,4 +1,4 @@
-//! What is being planned, by the lines of the image, of the group with its window, and of the devices.
+//! The plan, made by the lines of the image, of the group with its window, and of the devices.
 
 ghost use Rattle.std.specs.Prelude.{◌≡◌, ◌≤◌, ◌<◌, ◌++◌, ◌∷◌, [], ℕ, true, false, length, Option, Some, IfOk, OnOk, OnErr};
 ghost use Rattle.image_slots.specs.Image.{is_image};
@@ -26,10 +26,10 @@ const SESSIONS: u8 = 4;
 
 const GROUPS: u8 = 4;
 
-/// Bytes of flash for each session of a device that holds its sessions there: as many as any file of its area asks for.
+/// The bytes of flash for each session of a device that holds its sessions there: enough for any file of its area.
 const FLASH_SPAN: u32 = 631_573;
 
-/// A plan as its lines tell it so far. Its image and its devices go to the campaign.
+/// A plan as its lines describe it so far. Its image and its devices go to the campaign.
 #[derive(Drop)]
 pub struct Planning {
     pub(super) image: Vec<u8>,
@@ -37,7 +37,7 @@ pub struct Planning {
     pub(super) section: Section,
     pub(super) plan: Plan,
     pub(super) devices: Vec<LateDevice>,
-    /// Those of them that have a flash, by their IDs.
+    /// The IDs of the devices that have a flash.
     pub(super) flash: Vec<u64>,
 }
 
@@ -46,7 +46,7 @@ impl Planning {
     ghost use Rattle.campaign_world.specs.WorldInside.{IsToJoin, IsToBegin};
     ghost use Rattle.campaign_world.specs.PhaseInside.{IsPlanningOf, PlanBecomes, PlanTakes, planned_by};
 
-    /// Nothing is planned yet but the image.
+    /// Makes a plan with only its image.
     pub fn new(alloc: Global, image: Vec<u8>) -> Self
         requires { is_image image.items ≡ true }
         ensures planning { IsPlanningOf result }
@@ -198,7 +198,7 @@ impl Planning {
         self.section = Section::Group;
     }
 
-    /// The group's line, after which its window is to come.
+    /// The group's line, after which its window must come.
     fn group(&mut self, group: PlanGroup)
         requires here { self.old.section ≡ section.Group }
         requires planning { IsPlanningOf self.old }
@@ -257,7 +257,7 @@ impl Planning {
         }
     }
 
-    /// The campaign that was planned, before its first event. Where memory is missing the plan is as it was.
+    /// Makes the campaign that was planned, before its first event. Where memory is missing the plan is unchanged.
     pub fn begin(&mut self, alloc: Global) -> Result<Campaign, AllocError>
         requires { IsToBegin self.old.image.items self.old.plan self.old.devices.items }
         ensures begun { IfOk result (λ campaign. campaign ≡ planned_by self.old) }
@@ -310,7 +310,7 @@ fn copy_of(alloc: Global, plan: &Plan) -> Result<Plan, AllocError>
     }
 }
 
-/// A device joins the plan and the campaign; neither, where there is no room for both.
+/// Puts a device into the plan and the campaign; into neither, where there is no room for both.
 fn join(
     plan: &mut Plan,
     devices: &mut Vec<LateDevice>,
@@ -336,7 +336,7 @@ fn join(
     }
 }
 
-/// A device with a flash is one of them.
+/// Lists a device that has a flash.
 fn add_flash(ids: &mut Vec<u64>, id: u64, flash: bool) -> Result<(), AllocError>
     ensures { OnOk result (ids.new.items ≡ with_flash ids.old.items id flash) }
 {
@@ -349,14 +349,14 @@ fn add_flash(ids: &mut Vec<u64>, id: u64, flash: bool) -> Result<(), AllocError>
     }
 }
 
-/// The image formats that a device knows at first: 1 alone, or both.
+/// The image formats that a device knows at first: only 1, or both.
 fn formats_of(v1: bool) -> u8
     ensures { result ≡ formats_of v1 }
 {
     if v1 { 1 } else { 2 }
 }
 
-/// The kind of root key that a device's key is: the AppKey of LoRaWAN 1.1, or the GenAppKey of LoRaWAN 1.0.
+/// The kind of root key that a device's key makes: the AppKey of LoRaWAN 1.1, or the GenAppKey of LoRaWAN 1.0.
 fn root_of(k11: bool) -> RootKind
     ensures { result ≡ root_of k11 }
 {

@@ -1,4 +1,4 @@
-//! What the server of a campaign sends: each payload is written, and then numbered. It goes out as a frame where it has one.
+//! What the server of a campaign sends: each payload is written, and then numbered. It is sent as a frame where it has one.
 
 ghost use Rattle.std.specs.Prelude.{◌≡◌, ◌≤◌, ◌++◌, ℕ, length, Option, None, Some, OnErr, option_map};
 ghost use Rattle.std.specs.Result.{result_ok};
@@ -24,7 +24,7 @@ use wire_base::Refusal;
 impl Campaign {
     ghost use Rattle.campaign_world.specs.HeldWorld.{Plays, SameEnds};
 
-    /// The server sends the request of its stage to a device.
+    /// Sends the request of a device's stage to it.
     #[inline(never)]
     pub(super) fn ask(&mut self, device: u8) -> Result<(), AllocError>
         requires first { 1 ≤ device }
@@ -41,7 +41,7 @@ impl Campaign {
         Ok(())
     }
 
-    /// The server sends the next fragment, to any device.
+    /// Sends the next fragment, to any device.
     #[inline(never)]
     pub(super) fn frag(&mut self) -> Result<(), AllocError>
         ensures taken { (lines : ℕ) → Plays lines self.old self.new result (λ world. at_events
@@ -57,7 +57,7 @@ impl Campaign {
         Ok(())
     }
 
-    /// The server asks all devices for their status.
+    /// Asks all devices for their status.
     #[inline(never)]
     pub(super) fn status(&mut self) -> Result<(), AllocError>
         ensures taken { (lines : ℕ) → Plays lines self.old self.new result (λ world. at_events
@@ -73,7 +73,7 @@ impl Campaign {
         Ok(())
     }
 
-    /// Uplink U reaches the server, which may answer.
+    /// Takes uplink U to the server, which may answer.
     #[inline(never)]
     pub(super) fn up(&mut self, number: u64) -> Result<(), AllocError>
         requires made { (m : NumberedUplink) × (numbered self.old.uplinks number ≡ Some m) }
@@ -91,7 +91,7 @@ impl Campaign {
     }
 }
 
-/// The frame of a sent payload, where it has one.
+/// Returns the frame of a sent payload, where it has one.
 pub fn sent_frame(server: &Server, sent: &SentLog, number: u64) -> Option<Frame>
     ensures { option_map (λ frame. frame.items) result
         ≡ sent_frame server.now.plan.group (numbered sent.now.items number) }
@@ -145,7 +145,7 @@ fn send_status(sent: &mut SentLog, server: &mut Server)
     keep(sent, None, &server.status_all());
 }
 
-/// Numbers what the server answers to an uplink, nothing to one that it refuses. There is room for it.
+/// Numbers the server's answer to an uplink; there is none to one that it refuses. There is room for it.
 fn send_answer(sent: &mut SentLog, server: &mut Server, made: &NumberedUplink<'_>, t: u64)
     requires first { 1 ≤ made.now.device }
     requires last { made.now.device ≤ length server.old.plan.devices }

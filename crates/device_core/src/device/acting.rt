@@ -1,4 +1,4 @@
-//! A command to its package, and the weights of a message.
+//! Which package a command goes to, and the weights of a message.
 
 ghost use Rattle.std.specs.Prelude.{◌≡◌, ◌+◌, ◌<◌, ◌≤◌, length};
 ghost use Rattle.package_grammar.specs.declared.command.Command.{Command};
@@ -25,8 +25,7 @@ use session_store::FlashFault;
 impl<F: Flash + Drop> Device<F> {
     ghost use Rattle.device_core.specs.HeldDevice.{StepsAside};
 
-    /// Acts on one command; by multicast only DataFragment and FragSessionStatusReq act (this project's
-    /// profile).
+    /// Acts on one command; by multicast only DataFragment and FragSessionStatusReq act (this project's profile).
     #[tactic(auto, unfolding(crate::specs::Step::step, crate::specs::Answers::after_answers, crate::specs::Passed::step_tables))]
     pub(super) fn act(&mut self, here: Arrival, command: &Command) -> Result<(), FlashFault>
         requires up { IsUp self.old.sessions.state }
@@ -63,7 +62,7 @@ impl<F: Flash + Drop> Device<F> {
         }
     }
 
-    /// TS003 and TS006.
+    /// The commands of TS003 and TS006.
     #[tactic(auto, unfolding(crate::specs::Step::command_step, crate::specs::Clock::answer_step, crate::specs::Answers::after_answers))]
     fn act_on_sync(&mut self, here: Arrival, cmd: &sync_wire::Cmd)
         requires command { IsReceivable here.port (Command.Sync cmd.now) }
@@ -86,7 +85,7 @@ impl<F: Flash + Drop> Device<F> {
         }
     }
 
-    /// TS004 and TS005.
+    /// The commands of TS004 and TS005.
     #[tactic(auto, unfolding(crate::specs::Step::command_step, crate::specs::Answers::after_answers, crate::specs::Passed::command_tables))]
     fn act_on_cast(&mut self, here: Arrival, cmd: &cast_wire::Cmd) -> Result<(), FlashFault>
         requires up { IsUp self.old.sessions.state }
@@ -137,7 +136,7 @@ impl<F: Flash + Drop> Device<F> {
         }
     }
 
-    /// Those of TS004 and TS005 that are of no session.
+    /// The commands of TS004 and TS005 that belong to no session.
     #[tactic(auto, unfolding(crate::specs::Step::command_step, crate::specs::Answers::after_answers))]
     fn act_aside(&mut self, here: Arrival, cmd: &cast_wire::Cmd)
         requires aside { IsAside cmd.now }
@@ -250,7 +249,7 @@ fn identifier_of(port: u8) -> u8
     }
 }
 
-/// Whether a command acts that came this way.
+/// Whether a command that came this way acts.
 fn acts(via: Via, command: &Command) -> bool
     ensures { result ≡ acts via command.now }
 {
@@ -265,7 +264,7 @@ fn acts(via: Via, command: &Command) -> bool
     }
 }
 
-/// How many uplinks the commands of a message make at most.
+/// Returns how many uplinks the commands of a message make at most.
 pub fn weights(mut message: Message<'_>) -> u16
     requires { length message.commands ≤ 242 }
     ensures weight { result ≡ weights message.entry.commands }

@@ -22,7 +22,7 @@ impl<F: Flash + Drop> Device<F> {
     ghost use Rattle.device_core.specs.declared.delivered.OutboxFull.{OutboxFull};
     ghost use Rattle.device_core.specs.HeldDevice.{device_of, GoesAside, StepsAside};
 
-    /// AppTimeReq, where the outbox has room.
+    /// Sends AppTimeReq, where the outbox has room.
     #[tactic(auto, unfolding(crate::specs::Deliver::time_asking, crate::specs::Answers::after_answers))]
     pub(super) fn ask_time(&mut self, t: u64) -> Result<(), OutboxFull>
         ensures aside { GoesAside self.old self.new (λ device. (time_asking t device).device) }

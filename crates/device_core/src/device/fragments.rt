@@ -122,7 +122,7 @@ pub(super) fn is_whole<F: Flash + Drop>(sessions: &SessionStore<F>, index: u8) -
     }
 }
 
-/// The file of a session that was not whole becomes next, if it is whole now.
+/// Offers to next the file of a session that was not whole before and is whole now.
 #[tactic(auto, unfolding(frag_session::specs::HeldView::seen))]
 pub(super) fn offer<F: Flash + Drop>(
     slots: &mut Slots,

@@ -1,4 +1,4 @@
-//! A payload that comes: whether it is heard, what is read of it, and whether its commands act.
+//! A payload comes: whether it is heard, what is read of it, and whether its commands act.
 
 ghost use Rattle.std.specs.Prelude.{◌≡◌, ◌+◌, ◌<◌, ◌≤◌, [], ◌∷◌, length, Ok};
 ghost use Rattle.wire_base.specs.declared.refusal.Direction.{Direction};
@@ -29,7 +29,7 @@ use wire_base::Direction;
 impl<F: Flash + Drop> Device<F> {
     ghost use Rattle.device_core.specs.HeldDevice.{Becomes};
 
-    /// A payload that is heard is read, and one that is not is counted.
+    /// Reads a payload that is heard, and counts one that is not.
     #[tactic(auto, unfolding(crate::specs::Deliver::heard_delivery, crate::specs::Passed::heard_tables))]
     pub(super) fn hear(
         &mut self,
@@ -56,7 +56,7 @@ impl<F: Flash + Drop> Device<F> {
         self.read(here, down.bytes())
     }
 
-    /// What is read of a payload acts, and one that is refused is counted.
+    /// Acts on what is read of a payload, and counts one that is refused.
     #[tactic(auto, unfolding(crate::specs::Deliver::read_delivery, crate::specs::Passed::read_tables))]
     fn read(&mut self, here: Arrival, payload: &[u8]) -> Result<Delivered, FlashFault>
         requires moment { here.moment.t ≤ max_moment }
@@ -75,7 +75,7 @@ impl<F: Flash + Drop> Device<F> {
         }
     }
 
-    /// A message acts where the outbox has room for its weights.
+    /// Acts on a message where the outbox has room for its weights.
     #[tactic(auto, unfolding(crate::specs::Deliver::message_delivery, crate::specs::Passed::message_tables))]
     fn take(&mut self, here: Arrival, message: Message<'_>) -> Result<Delivered, FlashFault>
         requires moment { here.moment.t ≤ max_moment }
@@ -133,7 +133,7 @@ impl<F: Flash + Drop> Device<F> {
         Ok(())
     }
 
-    /// Bytes that are no frame for it are counted.
+    /// Counts bytes that are no frame for the device.
     pub(super) fn pass_over(&mut self, t: u64)
         ensures becomes { Becomes self.old self.new
             (λ device. with_counts after_deaf (after_due_reboot t device)) }

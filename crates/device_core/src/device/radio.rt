@@ -15,7 +15,7 @@ use package_grammar::{Downlink, To};
 impl<F: Flash + Drop> Device<F> {
     ghost use Rattle.device_core.specs.HeldDevice.{device_of};
 
-    /// What bytes bring to the group of the class session.
+    /// The payload that bytes bring to the group of the class session.
     #[tactic(auto, unfolding(crate::specs::Radio::brought))]
     pub(super) fn brought(&self, bytes: &[u8]) -> Result<Downlink, FrameFault>
         ensures { (table : SessionTable) → result ≡ brought (device_of self.now table) bytes.now }
@@ -39,7 +39,7 @@ fn session_keys(groups: &GroupTable, id: u8) -> Keys
     Keys { app_s, net_s }
 }
 
-/// What bytes bring to a group with these keys.
+/// The payload that bytes bring to a group with these keys.
 fn brought_to(group: &Group, keys: &Keys, bytes: &[u8]) -> Result<Downlink, FrameFault>
     requires { keys.now ≡ session_keys group.now }
     ensures { result ≡ brought_to (Some group.now) bytes.now }

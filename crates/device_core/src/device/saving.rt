@@ -1,4 +1,4 @@
-//! What the device knows, as bytes, and a device that is made of such bytes.
+//! What the device knows, as bytes, and a device that is restored from such bytes.
 
 ghost use Rattle.std.specs.Prelude.{◌≡◌, ◌↔◌, ◌≤◌, length, IsTrue};
 ghost use Rattle.image_slots.specs.declared.view.ImageState.{ImageState};
@@ -28,19 +28,19 @@ impl<F: Flash + Drop> Device<F> {
     ghost use Rattle.device_core.specs.HeldSaving.{IsRestored, Saves};
     ghost use Rattle.device_core.specs.SavingInside.{Takes};
 
-    /// What it knows, as bytes that `restore` takes again, beside the files that its slots hold: to be kept before it
-    /// ends. They hold the keys of its groups, and neither its own key nor its sessions. It takes no memory.
+    /// Returns what it knows as bytes that `restore` takes again, besides the files that its slots hold: to be stored before the
+    /// device ends. They hold the keys of its groups, and neither its own key nor its sessions. It takes no memory.
     pub fn save(&self) -> SavedDevice
         ensures { Saves self.now result.items }
     {
         self.saved_with(self.sessions.flags())
     }
 
-    /// The device whose bytes these are, with this configuration, the file that ran, and next, each empty where there was
-    /// none. Next is read again, so that it is valid only as it is. A device whose sessions are held is down until `power`,
-    /// and had its files whole as it was saved; another has no sessions. No flash is called. BadConfig comes exactly as at
-    /// `reserve`, and first; Corrupt exactly where no device of this configuration has these bytes and files. At an error
-    /// the flash is dropped.
+    /// Restores the device of these bytes, with this configuration, the file that ran, and next, each empty where there was none.
+    /// Next is read again, so that it is valid only as what its bytes are. A device whose sessions are held is down until
+    /// `power`, and knows which of its files were whole when it was saved; another has no sessions. No flash is called.
+    /// `BadConfig` comes exactly as at `reserve`, and first; `Corrupt` exactly where no device of this configuration has these
+    /// bytes and files; `Memory` where memory is missing. At an error the flash is dropped.
     pub fn restore(
         alloc: Global,
         config: DeviceConfig,
@@ -66,7 +66,7 @@ impl<F: Flash + Drop> Device<F> {
         }
     }
 
-    /// The bytes of the file that was received to run next, none where there is none.
+    /// Returns the bytes of the file that was received to run next, none where there is none.
     pub fn next_file(&self) -> &[u8]
         ensures { result.now ≡ self.now.slots.next_file }
     {
@@ -98,8 +98,8 @@ impl<F: Flash + Drop> Device<F> {
         saved
     }
 
-    /// Takes the fields of bytes that need not be those of a device, and the files; false exactly where a file has no room,
-    /// one comes for a next that is none, or an uplink is none.
+    /// Takes the fields of bytes that may not be a device's, and the files; false exactly where a file has no room, there is a
+    /// file without a next, or an uplink is none.
     fn take_saved(&mut self, saved: &[u8], running: &[u8], next: &[u8]) -> bool
         requires long { length saved.now ≡ 492 }
         requires few { self.old.config.groups ≤ 4 }

@@ -23,7 +23,7 @@ use package_grammar::{Command, To};
 impl<F: Flash + Drop> Device<F> {
     ghost use Rattle.device_core.specs.HeldDevice.{device_of, StepsAside};
 
-    /// Whether a payload is heard.
+    /// Says whether a payload is heard.
     #[tactic(auto, unfolding(crate::specs::ClassSessions::hears))]
     pub(super) fn hears(&self, t: u64, to: To) -> bool
         ensures { (table : SessionTable) → result ≡ hears (device_of self.now table) t to }
@@ -165,7 +165,7 @@ fn is_open(session: ClassSession, device_ms: u64, addr: u32) -> bool
     }
 }
 
-/// The way that a payload comes.
+/// Returns the way that a payload comes.
 pub fn via_of(session: Option<ClassSession>, to: To) -> Via
     ensures { result ≡ via_of session to }
 {

@@ -1,4 +1,4 @@
-//! A receiver over a part of the tests' own, stopped between any two of its calls and started again.
+//! A receiver over the tests' own part, stopped between any two of its calls and started again.
 
 ghost use Rattle.std.specs.Prelude.{◌≡◌, ◌≤◌, length};
 ghost use Rattle.wire_base.specs.Payload.{max_payload};
@@ -222,7 +222,7 @@ fn received(rt: &impl Abort, alloc: Global, calls: u32) -> u64 {
 
 #[test]
 fn a_file_outlasts_a_stop_at_any_call(rt: HostRuntime) {
-    // a start reads after a sync, a setup takes five calls, and each of three fragments two writes with a sync after each
+    // a start reads after a sync, a setup makes five calls, and each of three fragments two writes with a sync after each
     let all = 2 + 5 + 3 * 4;
     for calls in 0..all {
         assert!(rt; received(&rt, rt.alloc(), calls) == 1);

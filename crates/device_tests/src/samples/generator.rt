@@ -6,7 +6,7 @@ use std::alloc::Global;
 use std::process::Abort;
 use std::test::*;
 
-/// What another program made of a seed.
+/// The values that another program made of a seed.
 struct Case {
     seed: u32,
     image_length: usize,

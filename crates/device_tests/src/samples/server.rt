@@ -46,7 +46,7 @@ fn begun(rt: &impl Abort, alloc: Global) -> Server
     }
 }
 
-/// The server, ended and made again of what was kept.
+/// The server, ended and restored from what was stored.
 fn made_again(rt: &impl Abort, alloc: Global, server: Server) -> Server
     ensures { length result.plan.devices ≡ 1 }
 {
@@ -99,7 +99,7 @@ fn a_campaign_is_driven(rt: HostRuntime) {
     assert!(rt; !is_updated(&server, 1));
     let answer = [0x01, 0, 0, 0, 0, 1, 0, 0, 0];
     assert!(rt; matches!(came(&mut server, 1, 203, &answer, 0), Ok(None)));
-    // two fragments, between which the server ends, and then the group's counts are spent
+    // two fragments, with a restart of the server between them, and then the group's counts are used up
     sends(&rt, &mut server, 7);
     server = made_again(&rt, rt.alloc(), server);
     sends(&rt, &mut server, 8);

@@ -16,9 +16,9 @@ use crate::storing::{count_gate, store};
 use frag_session::{Heard, Idle, News, Via};
 
 impl<const W: usize, const B: usize> Held<W, B> {
-    /// Hears the data of a fragment, or drops it, as a slot does. At Ok it is acknowledged: what is new lies in the
-    /// flash as a record, and what is not is counted there, up to the count's end (16,383). At Err the memory is handed
-    /// back: open the session again.
+    /// Hears the data of a fragment, or drops it, as a slot does. At Ok it is acknowledged: a new fragment is in the flash as a
+    /// record, and any other is counted there, up to the count's end (16,383). At Err the memory is returned: open the session
+    /// again.
     pub fn hear<F: Flash>(
         self,
         flash: &mut F,
@@ -34,7 +34,7 @@ impl<const W: usize, const B: usize> Held<W, B> {
         // A stop at any moment leaves the session as it was, or followed by the fragment.
         ensures serves { HeldServes W B self.entry (λ o. after_fragment o via n part.now mark)
             (OldOrNew self.entry) (F.seen flash.old) (F.seen flash.new) result }
-        // Nothing is written of what is dropped, nor of what tells nothing new once the count has come to its end.
+        // Nothing is written of a dropped fragment, nor of one that is not new once the count is at its end.
         ensures dropped { IfOk result
             (λ r. (c : _) → r.1 ≡ Heard.Dropped c → flash.new ≡ flash.old) }
         ensures same { IfOk result

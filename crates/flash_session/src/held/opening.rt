@@ -16,7 +16,7 @@ use crate::flash::Flash;
 use frag_session::{Idle, Limits, Slot};
 
 impl<const W: usize, const B: usize> Held<W, B> {
-    /// Opens the `span` bytes from `base`: with the session that lies there, or with none. Foreign comes exactly where the
+    /// Opens the `span` bytes from `base`: with the session that is stored there, or with none. `Foreign` comes exactly where the
     /// header's gate is open and something there is no session's, and names the lowest such place.
     pub fn open<F: Flash>(
         flash: &mut F,
@@ -27,7 +27,7 @@ impl<const W: usize, const B: usize> Held<W, B> {
     ) -> Result<Held<W, B>, (Idle<W, B>, OpenFault)>
         requires range { base + span ≤ (F.seen flash.old).room }
         requires long { records_place ≤ span }
-        // What lies for a session, as each call leaves it at any moment, opens for that session.
+        // The content that any call leaves for a session at any moment opens for that session.
         ensures opened { (o : Option Session) (b : List ℕ) → (F.seen flash.new).holds b
             → LiesForAs (place_in W B base span limits idle.entry) o b
             → MatchResult result (λ h. IsHeldAs h o (F.seen flash.new))
@@ -59,7 +59,7 @@ impl<const W: usize, const B: usize> Held<W, B> {
         }
     }
 
-    /// A place of which nothing is known, whatever lies in its range: memory for a session, until the range is opened.
+    /// Makes a place of which nothing is known, whatever is in its range: memory for a session, until the range is opened.
     pub fn unopened(base: u32, span: u32, idle: Idle<W, B>, limits: Limits) -> Held<W, B>
         requires long { records_place ≤ span }
         ensures none { HeldStandsAs result None }

@@ -15,10 +15,10 @@ use crate::flash::Flash;
 use frag_session::{Idle, SetupReq};
 
 impl<const W: usize, const B: usize> Held<W, B> {
-    /// Answers FragSessionSetupReq (TS004-1.0.0) with all refusal bits, as a slot does; 2 is set too where the range is
-    /// too short for the session's records. A refused setup and an equal one make no flash call; any other closes the
-    /// header's gate where a session lives, clears all other gates and writes the setup, and opens the header's gate,
-    /// each step synced. At Err the memory is handed back: open the session again.
+    /// Takes a FragSessionSetupReq (TS004-1.0.0) and returns all refusal bits, as a slot does; 2 is set too where the range is
+    /// too short for the session's records. A refused setup and an equal one make no flash call. Any other closes the header's
+    /// gate where there is a session, clears all other gates, writes the setup and opens the header's gate, and syncs after each
+    /// step. At Err the memory is returned: open the session again.
     pub fn setup<F: Flash>(
         self,
         flash: &mut F,
@@ -48,7 +48,7 @@ impl<const W: usize, const B: usize> Held<W, B> {
         self.renew(flash, req)
     }
 
-    /// Begins a session in the place of whatever lived, and answers no refusal bit.
+    /// Begins a session instead of whatever was there, and answers no refusal bit.
     fn renew<F: Flash>(self, flash: &mut F, req: SetupReq) -> Result<(Held<W, B>, u8), Idle<W, B>>
         requires range { self.base + self.span ≤ (F.seen flash.old).room }
         requires fields { FieldsFit req }
@@ -86,7 +86,7 @@ impl<const W: usize, const B: usize> Held<W, B> {
     }
 
     /// Ends the session, as FragSessionDeleteReq asks (TS004-1.0.0); false exactly where there is none, and then no flash is
-    /// called. At Err the memory is handed back: open the session again.
+    /// called. At Err the memory is returned: open the session again.
     pub fn delete<F: Flash>(self, flash: &mut F) -> Result<(Held<W, B>, bool), Idle<W, B>>
         requires range { self.base + self.span ≤ (F.seen flash.old).room }
         ensures answer { (o : Option Session) → HeldStandsAs self.entry o

@@ -20,8 +20,8 @@ use report_lines::LineWhy;
 use script_lines::{Campaign, Form, PairForm, in_range};
 
 impl Pair {
-    /// Whose a line is that was read, or the first cause for which it is refused. A device that the form names has then the
-    /// number that it has in its campaign.
+    /// Returns the campaign of a line that was read, or the first cause for which the line is refused. A device that the form
+    /// names then has its number in its campaign.
     pub(super) fn accept(&self, pair_form: &mut PairForm) -> Result<Whose, LineWhy>
         ensures target { IfOk result (λ whose.
             IsAccepted self.now pair_form.old (told whose pair_form.new.form)) }
@@ -72,7 +72,7 @@ impl Pair {
         )
     }
 
-    /// Whether its fields are in range, after the devices of both and what the first one plans.
+    /// Whether its fields are in range, given the devices of both and what the first one plans.
     fn is_in_range(&self, pair_form: &PairForm) -> bool
         ensures { result ≡ (in_range pair_form.now.form
             && is_next (length self.now.owners) pair_form.now.form
@@ -85,7 +85,7 @@ impl Pair {
             && is_apart(self.a.plan(), pair_form.campaign, form)
     }
 
-    /// Whether it tells of none but a device of the two.
+    /// Whether each device that it names is one of the two campaigns'.
     fn names_device(&self, form: &Form) -> bool
         ensures { result ≡ names_device (length self.now.owners) form.now }
     {
@@ -103,7 +103,7 @@ impl Pair {
         }
     }
 
-    /// The first cause in the campaign whose the line is.
+    /// The first cause in the line's own campaign.
     fn target_cause(&self, whose: Whose, form: &Form) -> Option<LineWhy>
         requires quiet { whose ≡ Whose.Both → is_quiet form.now ≡ true }
         ensures { OfBoth self.now (λ pair. result ≡ target_cause pair (told whose form.now)) }

@@ -22,7 +22,7 @@ use std::sync::ledger::Ledger;
 const AHEAD: usize = 1792;
 
 impl<const W: usize, const B: usize> Table<W, B> {
-    /// Takes in a new row, which its column `p` leads, and counts the rows that it is added to.
+    /// Takes in a new row that its column `p` leads, and counts the rows that it is added to.
     pub fn push<M: Ledger>(&mut self, p: u16, line: &[u64], part: &[u8], sums: &mut Steps<M>)
         requires { MayPush self.old p line.now part.now }
         ensures grown { self.new
@@ -76,8 +76,8 @@ impl<const W: usize, const B: usize> Table<W, B> {
         self.gained += 1;
     }
 
-    /// Takes in a piece and a new row that column `p` leads, which is the piece itself or takes the place of the row that
-    /// the piece's column led. Counts the rows that it is added to.
+    /// Takes in a piece and a new row that column `p` leads: the row is the piece itself, or it replaces the row that the piece's
+    /// column led. Counts the rows that it is added to.
     pub fn learn<M: Ledger>(
         &mut self,
         k: usize,
@@ -130,7 +130,7 @@ impl<const W: usize, const B: usize> Table<W, B> {
         self.gained += 1;
     }
 
-    /// Takes in a piece that the equations tell already.
+    /// Takes in a piece that follows from the equations already.
     pub fn settle(&mut self, k: usize, piece: &[u8])
         requires known { Knows self.old.shape self.old.places k piece.now }
         ensures { IsPut k piece.now self.old self.new }
@@ -184,7 +184,7 @@ impl<const W: usize, const B: usize> Table<W, B> {
         put_parts(columns, &mut self.area, &*self.arena);
     }
 
-    /// The area reaches to the end of piece `k` from now on.
+    /// Extends the area to the end of piece `k`.
     fn reach_piece(&mut self, k: usize)
         requires inside { k < self.old.shape.nb_frag }
         ensures places { self.new.places ≡ self.old.places }
@@ -199,7 +199,7 @@ impl<const W: usize, const B: usize> Table<W, B> {
         }
     }
 
-    /// The area has so many bytes of the pieces, or more, from now on.
+    /// Extends the area to at least so many bytes of the pieces.
     fn reach(&mut self, n: usize)
         requires inside { n ≤ self.old.shape.nb_frag * self.old.shape.frag_size }
         ensures places { self.new.places ≡ self.old.places }
@@ -210,7 +210,7 @@ impl<const W: usize, const B: usize> Table<W, B> {
     }
 }
 
-/// Marks column `k` of a line, which does not have it, among the words that a line of so many columns takes.
+/// Marks column `k` of a line that doesn't have it, among the words that a line of so many columns takes.
 fn mark(known: &mut [u64], cols: u16, k: usize)
     requires words { words_for cols ≤ length known.old }
     requires inside { k < cols }

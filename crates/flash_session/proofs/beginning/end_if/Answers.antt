@@ -9,7 +9,7 @@ use Rattle.flash_session.proofs.Runs.{outside_stays}
 use Rattle.flash_session.proofs.Serves.{serves_none}
 use Rattle.flash_session.proofs.beginning.end_if.Goals as goal
 
--- what is told of some session is told where one lives
+-- what holds for some session holds for the one that is there
 ends : {T E : Type 0} (base span : ℕ) {old new : FlashSeen} {r : Result T E} (o : Option Stored) → is_some o ≡ true
     → RangeServes base span (WasOrIs base) (λ (s : Stored). Some s) (λ s. None) old new r
     → IsStoredAs base span o old → OnOk r (IsStoredAs base span None new) × LeavesOnly (WasOrIs base o None) old new

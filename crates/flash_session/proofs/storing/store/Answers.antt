@@ -9,7 +9,7 @@ use Rattle.flash_session.proofs.Okay.{OnOk_both, none_ok_on}
 use Rattle.flash_session.proofs.Serves.{in_range, range_joined, serves_failed}
 use Rattle.flash_session.proofs.storing.store.Goals as goal
 
--- where the next record and its gate lie, as code counts them
+-- where the next record and its gate are, as the code counts them
 record IsNext (base size n : ℕ) (f : Fragment) (s : Stored) : Type 0 where
   sized_as : length f.part ≡ s.size
   here : base + 24640 + (10 + size) * n ≡ record_at base s.size (length s.records)

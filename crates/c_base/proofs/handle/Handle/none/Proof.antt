@@ -1,4 +1,4 @@
--- `none` puts null beside the allocator.
+-- `none` puts null next to the allocator.
 use Rattle.std.proofs.Common.{◌≡◌, List, [], ◌∷◌, ◌++◌, refl, sym, subst}
 use mir.Syntax.{a_type, dcons, dnil}
 use mir.Val.{Val, vnull}
