@@ -20,7 +20,8 @@ use Rattle.frag_model.proofs.Uncoded.{each-In, each-from_In}
 use Rattle.frag_model.proofs.Tables.{IsSum-line, Row, lines_of, pivots_of, Apart, Table, has_table}
 use Rattle.frag_model.proofs.Dimension.{free_number, lines_within}
 use Rattle.frag_model.proofs.Enough.{gain-most}
-use Rattle.frag_model.proofs.Uniqueness.{same_at_sums, heard_lines, numbers_from_one}
+use Rattle.frag_model.specs.News.{lines_heard}
+use Rattle.frag_model.proofs.Uniqueness.{same_at_sums, numbers_from_one}
 
 -- ---- a set of columns against a line: the parity of what they share
 
@@ -250,10 +251,10 @@ flipped_differs size v k b pos h lt set = λ e.
 -- another block fits
 pub another_fits : (shape : Shape) (heard : List Fragment) (b : List (List ℕ)) → AreNumbered heard → 0 < shape.frag_size → FittingBlock shape heard b → gain shape heard < shape.nb_frag
     → (c : List (List ℕ)) × FittingBlock shape heard c × (c ≢ b)
-unfolding gain gain_of numbers_of heard_lines
+unfolding gain gain_of numbers_of
 another_fits shape heard b numbered pos fb few =
     let cols : ℕ = shape.nb_frag in
-    let ls : List ℕ = heard_lines shape heard in
+    let ls : List ℕ = lines_heard shape heard in
     let t = has_table cols ls (lines_within cols (map (λ (f : Fragment). f.number) heard) (numbers_from_one heard numbered)) in
     let f = free_number cols (pivots_of t.0) (omega (arith, length-map t.0 (λ (r : Row). r.pivot), t.1.gained)) in (
       flipped (drawn f.0 t.0) b,

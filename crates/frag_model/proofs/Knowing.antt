@@ -1,19 +1,19 @@
 -- Lists that know the same: one fragment more, and one that adds nothing.
-use Rattle.std.proofs.Common.{◌≡◌, ◌⊎◌, ℕ, ◌+◌, ◌-◌, ◌<◌, ◌≤◌, Bool, true, false, ◌||◌, List, ◌∷◌, map, get_or, bit_xor, refl, sym, ap, ap₂, ◌∙◌, subst, inl, inr, arith}
+use Rattle.std.proofs.Common.{◌≡◌, ◌⊎◌, ℕ, ◌+◌, ◌-◌, ◌<◌, ◌≤◌, Bool, true, false, ◌||◌, List, ◌∷◌, map, bit_xor, refl, sym, ap, ap₂, ◌∙◌, subst, inl, inr, arith}
 use Rattle.std.specs.Prelude.{if◌then◌else◌}
 use Rattle.std.proofs.lemmas.Bool.{cases_lt, cases_Bool, or_left, or_cases}
 use Rattle.std.proofs.lemmas.List.{ext_get_or}
 use Rattle.std.proofs.lemmas.List.Elements.{All-from_recursion, recursion_from_All}
-use Rattle.frag_model.specs.Fragments.{Fragment, Shape, IsPiece, Meets, equation_of, line_of, xor_all, pieces_at, byte_at}
+use Rattle.frag_model.specs.Fragments.{Fragment, Shape, IsPiece, Meets, equation_of, line_of, xor_all, pieces_at}
 use Rattle.frag_model.specs.Gain.{is_sum, gain_of_lines, gain_of, numbers_of, gain, direct, excess}
 use Rattle.frag_model.specs.Verdict.{Verdict, receiving, complete, no_rows, conflict, verdict_now, FittingBlock, IsVerdictNow}
-use Rattle.frag_model.proofs.Members.{In, In-map_from}
+use Rattle.frag_model.proofs.Members.{In}
 use Rattle.frag_model.proofs.Parts.{get_or-xor_all, length-xor_all}
 use Rattle.frag_model.proofs.Sums.{is_sum-cons, xor_back}
 use Rattle.frag_model.proofs.Tables.{IsSum-from_test, test-from_IsSum, IsSum-xor}
-use Rattle.frag_model.proofs.Uncoded.{each-In, heard_or_new, direct_of-heard, direct_of-new}
+use Rattle.frag_model.proofs.Uncoded.{heard_or_new, direct_of-heard, direct_of-new}
 use Rattle.frag_model.proofs.Dimension.{direct_of-coded}
-use Rattle.frag_model.proofs.Uniqueness.{same_at_sums}
+use Rattle.frag_model.proofs.Uniqueness.{same_at_sums, same_line}
 use Rattle.frag_model.proofs.Verdicts.{verdict_now-right, IsVerdictNow-same}
 use Rattle.frag_model.specs.News.{lines_heard, KnowTheSame}
 
@@ -101,22 +101,6 @@ line_is_sum shape f older same = elim (cases_Bool (is_sum (line_of shape.nb_frag
       let more : gain shape (f ∷ older) ≡ gain shape older + 1 = gain_more shape f older ∙ ap (λ (t : Bool). gain shape older + (if t then 0 else 1)) is_not in
       absurd (omega (arith, same, more))
 ]
-
--- what a block that fits has at each line that was heard
-fits_line : (shape : Shape) (heard : List Fragment) (block : List (List ℕ)) (f : Fragment) (i : ℕ) → FittingBlock shape heard block → In f heard → byte_at (line_of shape.nb_frag f.number) i block ≡ get_or f.part i 0
-unfolding Meets equation_of
-fits_line shape heard block f i fb m =
-    let meets : Meets shape.frag_size block (equation_of shape f) =
-    each-In (λ (g : Fragment). Meets shape.frag_size block (equation_of shape g)) f heard (recursion_from_All (λ (g : Fragment). Meets shape.frag_size block (equation_of shape g)) heard fb.fitting) m in
-    sym (get_or-xor_all shape.frag_size (line_of shape.nb_frag f.number) i block) ∙ ap (λ p. get_or p i 0) meets
-
-same_line : (shape : Shape) (heard : List Fragment) (b c : List (List ℕ)) (i l : ℕ) → FittingBlock shape heard b → FittingBlock shape heard c → In l (lines_heard shape heard) → byte_at l i b ≡ byte_at l i c
-unfolding numbers_of
-same_line shape heard b c i l fb fc m =
-    let n = In-map_from (λ j. line_of shape.nb_frag j) l (map (λ (f : Fragment). f.number) heard) m in
-    let f = In-map_from (λ (g : Fragment). g.number) n.0 heard n.1 in
-    let is : l ≡ line_of shape.nb_frag f.0.number = n.2 ∙ ap (λ j. line_of shape.nb_frag j) f.2 in
-    ap (λ z. byte_at z i b) is ∙ fits_line shape heard b f.0 i fb f.1 ∙ sym (ap (λ z. byte_at z i c) is ∙ fits_line shape heard c f.0 i fc f.1)
 
 -- a block that fits those before meets it, where some block does and its line is a sum of theirs
 meets_old : (shape : Shape) (f : Fragment) (older : List Fragment) (b c : List (List ℕ)) → is_sum (line_of shape.nb_frag f.number) (lines_heard shape older) ≡ true

@@ -13,6 +13,7 @@ use Rattle.frag_model.specs.Fragments.{Fragment, Shape, IsPiece, Meets, equation
 use Rattle.frag_model.specs.Gain.{gain_of_lines, gain_of, numbers_of, gain, IsSum}
 use Rattle.frag_model.specs.Verdict.{FittingBlock}
 use Rattle.frag_model.specs.Laws.{AreNumbered}
+use Rattle.frag_model.specs.News.{lines_heard}
 use Rattle.frag_model.proofs.Members.{In, In-map, In-map_from}
 use Rattle.frag_model.proofs.Parts.{xor_swap, get_or-xor_all}
 use Rattle.frag_model.proofs.Uncoded.{each-In, xor_all_piece}
@@ -102,23 +103,20 @@ unit_sum cols k ls h full lt =
     let line : r.0.line ≡ 2 ^ k = full_row cols t.0 r.0 t.1.table all r.1 ∙ ap (λ j. 2 ^ j) (sym r.2) in
     t.1.to (2 ^ k) (subst (λ z. IsSum z (lines_of t.0)) line (IsSum-line r.0.line (lines_of t.0) (In-map (λ (q : Row). q.line) r.0 t.0 r.1)))
 
-unfoldable pub heard_lines : Shape → List Fragment → List ℕ
-heard_lines shape heard = map (λ n. line_of shape.nb_frag n) (map (λ (f : Fragment). f.number) heard)
-
 pub numbers_from_one : (heard : List Fragment) → AreNumbered heard → AllByRecursion (λ n. 1 ≤ n) (map (λ (f : Fragment). f.number) heard)
 numbers_from_one [] h = tt
 numbers_from_one (f ∷ heard) h = (h.0, numbers_from_one heard h.1)
 
 -- what a block that fits has at each line that was heard
-fits_line : (shape : Shape) (heard : List Fragment) (block : List (List ℕ)) (f : Fragment) (i : ℕ) → FittingBlock shape heard block → In f heard → byte_at (line_of shape.nb_frag f.number) i block ≡ get_or f.part i 0
+pub fits_line : (shape : Shape) (heard : List Fragment) (block : List (List ℕ)) (f : Fragment) (i : ℕ) → FittingBlock shape heard block → In f heard → byte_at (line_of shape.nb_frag f.number) i block ≡ get_or f.part i 0
 unfolding Meets equation_of
 fits_line shape heard block f i fb m =
     let meets : Meets shape.frag_size block (equation_of shape f) =
     each-In (λ (g : Fragment). Meets shape.frag_size block (equation_of shape g)) f heard (recursion_from_All (λ (g : Fragment). Meets shape.frag_size block (equation_of shape g)) heard fb.fitting) m in
     sym (get_or-xor_all shape.frag_size (line_of shape.nb_frag f.number) i block) ∙ ap (λ p. get_or p i 0) meets
 
-same_line : (shape : Shape) (heard : List Fragment) (b c : List (List ℕ)) (i l : ℕ) → FittingBlock shape heard b → FittingBlock shape heard c → In l (heard_lines shape heard) → byte_at l i b ≡ byte_at l i c
-unfolding heard_lines
+pub same_line : (shape : Shape) (heard : List Fragment) (b c : List (List ℕ)) (i l : ℕ) → FittingBlock shape heard b → FittingBlock shape heard c → In l (lines_heard shape heard) → byte_at l i b ≡ byte_at l i c
+unfolding numbers_of
 same_line shape heard b c i l fb fc m =
     let n = In-map_from (λ j. line_of shape.nb_frag j) l (map (λ (f : Fragment). f.number) heard) m in
     let f = In-map_from (λ (g : Fragment). g.number) n.0 heard n.1 in
@@ -129,7 +127,7 @@ piece_byte : (size k i : ℕ) (block : List (List ℕ)) → k < length block →
 piece_byte size k i block lt h = sym (get_or-xor_all size (2 ^ k) i block) ∙ ap (λ p. get_or p i 0) (xor_all_piece size k (2 ^ k) block refl lt h)
 
 pub unique_at_full_gain : (shape : Shape) (heard : List Fragment) (b c : List (List ℕ)) → AreNumbered heard → gain shape heard ≡ shape.nb_frag → FittingBlock shape heard b → FittingBlock shape heard c → c ≡ b
-unfolding gain gain_of numbers_of heard_lines
+unfolding gain gain_of numbers_of
 unique_at_full_gain shape heard b c numbered full fb fc =
     let hb = recursion_from_All (IsPiece shape.frag_size) b fb.shaped.pieces in
     let hc = recursion_from_All (IsPiece shape.frag_size) c fc.shaped.pieces in
@@ -139,8 +137,8 @@ unique_at_full_gain shape heard b c numbered full fb fc =
     let ltb : k < length b = omega (arith, fb.shaped.counted) in
     let pc : IsPiece shape.frag_size (get_or c k []) = All-get_or (IsPiece shape.frag_size) c k [] lt fc.shaped.pieces in
     let pb : IsPiece shape.frag_size (get_or b k []) = All-get_or (IsPiece shape.frag_size) b k [] ltb fb.shaped.pieces in
-    let unit : IsSum (2 ^ k) (heard_lines shape heard) = unit_sum shape.nb_frag k (heard_lines shape heard) within full inside in
+    let unit : IsSum (2 ^ k) (lines_heard shape heard) = unit_sum shape.nb_frag k (lines_heard shape heard) within full inside in
     ext_get_or 0 (get_or c k []) (get_or b k []) (pc.sized ∙ sym pb.sized) (λ i ilt.
     sym (piece_byte shape.frag_size k i c lt hc)
-    ∙ same_at_sums i (2 ^ k) c b (heard_lines shape heard) (λ l m. same_line shape heard c b i l fc fb m) unit
+    ∙ same_at_sums i (2 ^ k) c b (lines_heard shape heard) (λ l m. same_line shape heard c b i l fc fb m) unit
     ∙ piece_byte shape.frag_size k i b ltb hb))

@@ -8,8 +8,10 @@ use Rattle.std.proofs.lemmas.List.FromFn.{length-map-range_with_len, get_or-map-
 use Rattle.std.proofs.lemmas.Bool.Decides.{nat_tests}
 use lib.Lanes.{zip2}
 use Rattle.row_arena.specs.Rows.{Row, Arena, zero_row, row_at, with_row, row_sum, words_for, line_in, has_room}
-use Rattle.row_arena.specs.ArenaInside.{stretch, row_in, rows_in, IsArena}
-use Rattle.row_arena.proofs.Written.{before, length-stretch, get_or-stretch, Sums}
+use Rattle.row_arena.specs.Stretch.{stretch}
+use Rattle.row_arena.specs.ArenaInside.{row_in, rows_in, IsArena}
+use Rattle.row_arena.proofs.Stretched.{before, length-stretch, get_or-stretch}
+use Rattle.row_arena.proofs.Written.{Sums}
 use Rattle.row_arena.proofs.Bits.{none_set}
 
 pub refilled : (xs ys : List ℕ) → length ys ≡ length xs → refill (length xs) xs ys ≡ ys
@@ -162,7 +164,7 @@ added_seen rows cols cell k line part words bytes words' bytes' lt sum others su
 zeros_long : (n : ℕ) (xs : List ℕ) → xs ≡ replicate n 0 → length xs ≡ n
 zeros_long n xs e = ap length e ∙ length-replicate n 0
 
-zeros_stretch : (n k size : ℕ) → k * size + size ≤ n → stretch k size (replicate n 0) ≡ replicate size 0
+zeros_stretch : (n k size : ℕ) → k * size + size ≤ n → stretch {A = ℕ} k size (replicate n 0) ≡ replicate size 0
 zeros_stretch n k size room =
     let zeros : List ℕ = replicate n 0 in
     let many : List ℕ = replicate size 0 in

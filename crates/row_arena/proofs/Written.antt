@@ -1,4 +1,4 @@
--- The stretches of a list after one of them was written.
+-- The stretches of a list of which one was written, in two parts or whole.
 use Rattle.std.proofs.Common.{◌≡◌, ◌≢◌, ℕ, suc, ◌+◌, ◌*◌, ◌<◌, ◌≤◌, List, ◌++◌, length, take, drop, get_or, bit_xor, refl, sym, ap, ap₂, ◌∙◌, inl, inr, arith, suc-mul, length-take-le, length-drop, append_assoc}
 use Rattle.std.proofs.lemmas.List.{take_at, drop_at, drop-take, get_or-take, get_or-drop, take-append-le, drop-append-le, take-append-drop, take-take}
 use Rattle.std.proofs.lemmas.Slice.{take-put_mid_below, drop-put_mid}
@@ -8,45 +8,8 @@ use Rattle.std.proofs.lemmas.Simd.{length-zip2}
 use lib.Lanes.{zip2}
 use borrow.Rule.Slice.PartMut.{put_mid, post_of}
 use Rattle.row_arena.specs.Rows.{line_in}
-use Rattle.row_arena.specs.ArenaInside.{stretch}
-
-pub length-stretch : (k size : ℕ) (xs : List ℕ) → k * size + size ≤ length xs → length (stretch k size xs) ≡ size
-unfolding stretch
-length-stretch k size xs room = length-take-le size (drop (k * size) xs) (omega (arith, length-drop (k * size) xs))
-
-pub get_or-stretch : (k size i : ℕ) (xs : List ℕ) (d : ℕ) → i < size → get_or (stretch k size xs) i d ≡ get_or xs (k * size + i) d
-unfolding stretch
-get_or-stretch k size i xs d lt = get_or-take size (drop (k * size) xs) i d lt ∙ get_or-drop (k * size) xs i d
-
--- the stretch of a slice, as code takes it
-pub stretch_is : (k size n : ℕ) (xs : List ℕ) → n ≡ size → take n (drop (k * size) xs) ≡ stretch k size xs
-unfolding stretch
-stretch_is k size n xs e = ap (λ m. take m (drop (k * size) xs)) e
-
-pub put_there : (k size n : ℕ) (xs ys : List ℕ) → length ys ≡ size → k * size + size ≤ length xs → stretch k size (put_mid (k * size) n xs ys) ≡ ys
-unfolding stretch
-put_there k size n xs ys e room =
-    let front : length (take (k * size) xs) ≡ k * size = length-take-le (k * size) xs (omega arith) in
-    ap (λ l. take size l) (drop_at (take (k * size) xs) (ys ++ post_of (k * size) n xs) (k * size) front)
-    ∙ take_at ys (post_of (k * size) n xs) size e
-
-pub before : (j k size : ℕ) → j < k → j * size + size ≤ k * size
-before j k size lt =
-    let le : suc j * size ≤ k * size = mul-le (suc j) size k size (omega arith) (omega arith) in
-    omega (arith, le, suc-mul j size)
-
-pub put_others : (j k size n : ℕ) (xs ys : List ℕ) → length ys ≡ size → n ≡ size → k * size + size ≤ length xs → j ≢ k → stretch j size (put_mid (k * size) n xs ys) ≡ stretch j size xs
-unfolding stretch
-put_others j k size n xs ys e f room ne = elim (cases_lt j k) [
-  | inl lt ↦
-      let le : j * size + size ≤ k * size = before j k size lt in
-      sym (drop-take (j * size) size (put_mid (k * size) n xs ys))
-      ∙ ap (λ l. drop (j * size) l) (take-put_mid_below (k * size) n xs ys (j * size + size) le (omega arith))
-      ∙ drop-take (j * size) size xs
-  | inr past ↦
-      let le : k * size + size ≤ j * size = before k j size (omega arith) in
-      ap (λ l. take size l) (drop-put_mid (k * size) n xs ys (j * size) (omega arith) (omega arith) (e ∙ sym f))
-]
+use Rattle.row_arena.specs.Stretch.{stretch}
+use Rattle.row_arena.proofs.Stretched.{length-stretch, stretch_is, put_there, before, put_others}
 
 -- a list that was cut in two, with a stretch of the first part written
 pub cut_low : (a n mid : ℕ) (xs low high ys : List ℕ) → low ≡ take mid xs → high ≡ drop mid xs → a + n ≤ mid → mid ≤ length xs

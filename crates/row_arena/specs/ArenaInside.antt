@@ -1,12 +1,8 @@
 -- What an arena keeps true, and where its rows are.
 use Rattle.std.specs.Prelude.{◌≡◌, ℕ, ◌*◌, ◌^◌, ◌<◌, List, map, length}
 use Rattle.std.specs.List.{range_with_len}
-use Rattle.std.specs.Simd.Lanes.{chunk}
 use Rattle.row_arena.specs.Rows.{Row, words_for, line_in}
-
--- the k-th stretch of this size
-unfoldable pub stretch : ℕ → ℕ → List ℕ → List ℕ
-stretch k size xs = chunk (k * size) size xs
+use Rattle.row_arena.specs.Stretch.{stretch}
 
 -- what the storage says of row r
 unfoldable pub row_in : ℕ → ℕ → List ℕ → List ℕ → ℕ → Row

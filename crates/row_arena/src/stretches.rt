@@ -3,7 +3,7 @@
 ghost use Rattle.std.specs.Prelude.{◌≡◌, ◌≢◌, ℕ, ◌+◌, ◌*◌, ◌<◌, ◌≤◌, length, bit_xor, replicate};
 ghost use Rattle.std.specs.Simd.Lanes.{zip2};
 ghost use Rattle.row_arena.specs.Rows.{line_in};
-ghost use Rattle.row_arena.specs.ArenaInside.{stretch};
+ghost use Rattle.row_arena.specs.Stretch.{stretch};
 
 use crate::lanes::{xor_bytes, xor_words};
 

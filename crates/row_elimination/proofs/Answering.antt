@@ -14,7 +14,7 @@ use Rattle.frag_model.proofs.Uncoded.{line_of_piece}
 use Rattle.row_elimination.specs.declared.stages.Stage.TheVariants as stage
 use Rattle.row_elimination.specs.HeldPlaces.{Place, free, piece, row, told, is_piece, pieces_held, rows_held, gained_held, lines_held, grown, FitsHeld}
 use Rattle.row_elimination.specs.Inside.{IsReduced}
-use Rattle.row_elimination.specs.HeldStorage.{chunk}
+use Rattle.row_arena.specs.Stretch.{stretch}
 use Rattle.row_elimination.specs.HeldSteps.{IsNew, Knows, Tells, Agrees, AgreesAll, Reduced}
 use Rattle.row_elimination.specs.HeldTable.{Grid, SameRoom}
 use Rattle.row_elimination.specs.HeldSolver.{Held, IsMarked, line_for, equation_for, IsLeft, is_new_piece, Takes, Receives, Completes, Contradicts, Overflows}
@@ -267,28 +267,28 @@ receives g new n part t reduced some more =
       two = (r.0, r.1, fits_from_agrees new.shape new.places r.0 reduced r.2 r.3, fits_from_agrees new.shape new.places r.1 reduced r.4 r.5, r.6);
     }
 
-chunk_next : (c size : ℕ) (xs : List ℕ) → chunk (suc c) size xs ≡ chunk c size (drop size xs)
-unfolding chunk
-chunk_next c size xs =
+stretch_next : (c size : ℕ) (xs : List ℕ) → stretch (suc c) size xs ≡ stretch c size (drop size xs)
+unfolding stretch
+stretch_next c size xs =
     ap (λ n. take size (drop n xs)) (let e : suc c * size ≡ size + c * size = omega (arith, suc-mul c size) in e)
     ∙ ap (λ l. take size l) (sym (drop-drop (c * size) size xs))
 
-chunk_first : (size : ℕ) (xs : List ℕ) → chunk 0 size xs ≡ take size xs
-unfolding chunk
-chunk_first size xs = ap (λ n. take size (drop n xs)) (zero-mul size)
+stretch_first : (size : ℕ) (xs : List ℕ) → stretch 0 size xs ≡ take size xs
+unfolding stretch
+stretch_first size xs = ap (λ n. take size (drop n xs)) (zero-mul size)
 
-concat_chunks : (size : ℕ) (b : List (List ℕ)) (xs : List ℕ) → ((c : ℕ) → c < length b → get_or b c [] ≡ chunk c size xs) → concat b ≡ take (length b * size) xs
-concat_chunks size [] xs h = sym (ap (λ n. take n xs) (zero-mul size))
-concat_chunks size (p ∷ b) xs h =
-    let rest : concat b ≡ take (length b * size) (drop size xs) = concat_chunks size b (drop size xs) (λ c lt. h (suc c) (omega arith) ∙ chunk_next c size xs) in
-    ap₂ (λ x y. x ++ y) (h 0 (omega arith) ∙ chunk_first size xs) rest
+concat_stretches : (size : ℕ) (b : List (List ℕ)) (xs : List ℕ) → ((c : ℕ) → c < length b → get_or b c [] ≡ stretch c size xs) → concat b ≡ take (length b * size) xs
+concat_stretches size [] xs h = sym (ap (λ n. take n xs) (zero-mul size))
+concat_stretches size (p ∷ b) xs h =
+    let rest : concat b ≡ take (length b * size) (drop size xs) = concat_stretches size b (drop size xs) (λ c lt. h (suc c) (omega arith) ∙ stretch_next c size xs) in
+    ap₂ (λ x y. x ++ y) (h 0 (omega arith) ∙ stretch_first size xs) rest
     ∙ sym (take-add size (length b * size) xs)
     ∙ ap (λ n. take n xs) (let e : size + length b * size ≡ suc (length b) * size = omega (arith, suc-mul (length b) size) in e)
 
 -- once nothing is free, and all parts are in the area
 pub completes : (g now new : Grid) (n : ℕ) (part : List ℕ) → length part ≡ g.shape.frag_size → IsReduced g.shape.nb_frag g.shape.frag_size g.places
     → Takes (held_of stage.Receiving g) (held_of stage.Receiving now) n part → IsReduced now.shape.nb_frag now.shape.frag_size now.places → gained_held now.places ≡ now.shape.nb_frag
-    → new.places ≡ now.places → SameRoom now new → ((c : ℕ) (e : Equation) → Tells now.places c e → chunk c now.shape.frag_size new.area ≡ e.part)
+    → new.places ≡ now.places → SameRoom now new → ((c : ℕ) (e : Equation) → Tells now.places c e → stretch c now.shape.frag_size new.area ≡ e.part)
     → Completes (held_of stage.Receiving g) (held_of stage.Complete new) n part
 completes g now new n part sized held t reduced full places room parts =
     let old = held_of stage.Receiving g in
@@ -296,13 +296,13 @@ completes g now new n part sized held t reduced full places room parts =
     let size : ℕ = now.shape.frag_size in
     let all : (k : ℕ) → k < nb → (e : Equation) × Tells now.places k e = λ k lt. none_free now.places k (omega (arith, reduced.sized)) (omega (arith, reduced.sized)) in
     let b = some_fitting now.shape now.places reduced in
-    let pieces : (x : List (List ℕ)) → IsBlock now.shape x → AgreesAll x now.places → (c : ℕ) → c < nb → get_or x c [] ≡ chunk c size new.area = λ x block agrees c lt.
+    let pieces : (x : List (List ℕ)) → IsBlock now.shape x → AgreesAll x now.places → (c : ℕ) → c < nb → get_or x c [] ≡ stretch c size new.area = λ x block agrees c lt.
     let e = all c lt in
     alone_piece now.shape now.places x c e.0 reduced block agrees e.1 (alone_line nb size now.places c e.0 reduced all e.1) ∙ sym (parts c e.0 e.1) in
     let long : (x : List (List ℕ)) → IsBlock now.shape x → length x ≡ nb = λ x block. block.counted in
     let fits = fits_from_agrees now.shape now.places b.0 reduced b.1 b.2 in
     let content : take (nb * size) new.area ≡ concat b.0 =
-    ap (λ m. take (m * size) new.area) (sym b.1.counted) ∙ sym (concat_chunks size b.0 new.area (λ c lt. pieces b.0 b.1 b.2 c (omega (arith, b.1.counted)))) in
+    ap (λ m. take (m * size) new.area) (sym b.1.counted) ∙ sym (concat_stretches size b.0 new.area (λ c lt. pieces b.0 b.1 b.2 c (omega (arith, b.1.counted)))) in
     let rows : rows_held new.places ≤ new.shape.rows =
     let u : new.shape.rows ≡ now.shape.rows = ap (λ (s : Shape). s.rows) room.shape in
     omega (arith, ap rows_held places, t.room, u) in

@@ -11,11 +11,12 @@ use Rattle.row_elimination.specs.declared.columns.Column.TheVariants.{Free, Piec
 use Rattle.row_elimination.specs.HeldPlaces.{Place, free, piece, row, told, is_piece, is_row, pieces_held, rows_held, gained_held, grown, cleared}
 use Rattle.row_elimination.specs.Inside.{IsReduced, Marks}
 use Rattle.row_elimination.specs.Room.{Extent}
-use Rattle.row_elimination.specs.HeldStorage.{chunk, place_in, places_in, part_in, IsStored, IsRowOf, SameShape, Slots}
+use Rattle.row_arena.specs.Stretch.{stretch}
+use Rattle.row_elimination.specs.HeldStorage.{place_in, places_in, part_in, IsStored, IsRowOf, SameShape, Slots}
 use Rattle.row_elimination.specs.HeldSteps.{IsNew, Knows, Tells}
 use Rattle.row_elimination.specs.HeldTable.{Grid, IsGrid, IsTable, max_line_words}
 use Rattle.frag_model.specs.Limits.{max_pieces}
-use Rattle.row_elimination.proofs.Chunks.{chunk_within, chunk_longer}
+use Rattle.row_arena.proofs.Stretched.{stretch_within, stretch_longer}
 use Rattle.row_elimination.proofs.Reducing.{piece_at}
 use Rattle.row_elimination.proofs.Storing.{piece_told, at_places, length-places, row_told, same_shape}
 use Rattle.row_elimination.proofs.Packing.{read_there}
@@ -55,7 +56,7 @@ grid_next nb size rows count count' gained gained' columns columns' spare spare'
 pub piece_room : (nb size rows count gained k : ℕ) (columns : List Column) (spare known area : List ℕ) (arena : Arena) → IsGrid nb size rows count gained columns spare known area arena
     → get_or (take nb columns) k Free ≡ Piece → k * size + size ≤ length area
 piece_room nb size rows count gained k columns spare known area arena h is =
-    chunk_within k size area (h.reduced.part k (piece_at size area k) (piece_told size area arena k (take nb columns) is)).sized
+    stretch_within k size area (h.reduced.part k (piece_at size area k) (piece_told size area arena k (take nb columns) is)).sized
 
 pub stored : (nb size rows count gained : ℕ) (columns : List Column) (spare known area : List ℕ) (arena : Arena) → IsGrid nb size rows count gained columns spare known area arena
     → IsStored size arena (take nb columns)
@@ -363,8 +364,8 @@ settled_already shape area arena os k part known none =
         → get_or (places_in shape.frag_size area arena os) k free ≡ piece part
     by_column Free at ne some tells = absurd (some at)
     by_column Piece at ne some tells =
-        let t : told k (piece (chunk k shape.frag_size area)) ≡ Some (record { line = 2 ^ k; part = part }) = subst (λ s. told k s ≡ Some (record { line = 2 ^ k; part = part })) at tells in
-        let same : chunk k shape.frag_size area ≡ part = ap part_of t in
+        let t : told k (piece (stretch k shape.frag_size area)) ≡ Some (record { line = 2 ^ k; part = part }) = subst (λ s. told k s ≡ Some (record { line = 2 ^ k; part = part })) at tells in
+        let same : stretch k shape.frag_size area ≡ part = ap part_of t in
         at ∙ ap piece same
     by_column (Row slot) at ne some tells = absurd (ne slot refl)
 
@@ -376,18 +377,18 @@ part_told size area arena c Free e h = absurd (cc)
 part_told size area arena c Piece e h = ap part_of h
 part_told size area arena c (Row slot) e h = ap part_of h
 
-pub finished_parts : (size : ℕ) (area area' : List ℕ) (arena : Arena) (os : List Column) → ((c : ℕ) → chunk c size area' ≡ part_in size area arena c (get_or os c Free))
-    → (c : ℕ) (e : Equation) → Tells (places_in size area arena os) c e → chunk c size area' ≡ e.part
+pub finished_parts : (size : ℕ) (area area' : List ℕ) (arena : Arena) (os : List Column) → ((c : ℕ) → stretch c size area' ≡ part_in size area arena c (get_or os c Free))
+    → (c : ℕ) (e : Equation) → Tells (places_in size area arena os) c e → stretch c size area' ≡ e.part
 finished_parts size area area' arena os put c e h =
     put c ∙ part_told size area arena c (get_or os c Free) e (subst (λ s. told c s ≡ Some e) (at_places size area arena c os) h)
 
-same_place : (size : ℕ) (area area' : List ℕ) (arena : Arena) (c : ℕ) (o : Column) → chunk c size area' ≡ part_in size area arena c o → place_in size area' arena c o ≡ place_in size area arena c o
+same_place : (size : ℕ) (area area' : List ℕ) (arena : Arena) (c : ℕ) (o : Column) → stretch c size area' ≡ part_in size area arena c o → place_in size area' arena c o ≡ place_in size area arena c o
 unfolding place_in part_in
 same_place size area area' arena c Free h = refl
 same_place size area area' arena c Piece h = ap piece h
 same_place size area area' arena c (Row slot) h = refl
 
-pub finished_places : (size : ℕ) (area area' : List ℕ) (arena : Arena) (os : List Column) → ((c : ℕ) → chunk c size area' ≡ part_in size area arena c (get_or os c Free))
+pub finished_places : (size : ℕ) (area area' : List ℕ) (arena : Arena) (os : List Column) → ((c : ℕ) → stretch c size area' ≡ part_in size area arena c (get_or os c Free))
     → places_in size area' arena os ≡ places_in size area arena os
 finished_places size area area' arena os put =
     ext_get_or free (places_in size area' arena os) (places_in size area arena os)
@@ -395,7 +396,7 @@ finished_places size area area' arena os put =
     at_places size area' arena c os ∙ same_place size area area' arena c (get_or os c Free) (put c) ∙ sym (at_places size area arena c os))
 
 pub finished : (nb size rows count gained : ℕ) (columns : List Column) (spare known area area' : List ℕ) (arena : Arena) → IsGrid nb size rows count gained columns spare known area arena
-    → ((c : ℕ) → chunk c size area' ≡ part_in size area arena c (get_or (take nb columns) c Free))
+    → ((c : ℕ) → stretch c size area' ≡ part_in size area arena c (get_or (take nb columns) c Free))
     → IsGrid nb size rows count gained columns spare known area' arena
 finished nb size rows count gained columns spare known area area' arena h put =
     grid_next nb size rows count count gained gained columns columns spare spare known known area area' arena arena (places_in size area arena (take nb columns)) h refl refl refl (same_shape arena)
@@ -413,7 +414,7 @@ longer_places nb size area more arena os reduced =
   where
     by_column : (c : ℕ) (o : Column) → get_or os c Free ≡ o → place_in size (area ++ more) arena c o ≡ place_in size area arena c o
     by_column c Free is = refl
-    by_column c Piece is = ap piece (chunk_longer c size area more (reduced.part c (piece_at size area c) (piece_told size area arena c os is)).sized)
+    by_column c Piece is = ap piece (stretch_longer c size area more (reduced.part c (piece_at size area c) (piece_told size area arena c os is)).sized)
     by_column c (Row slot) is = refl
 
 pub longer : (nb size rows count gained : ℕ) (columns : List Column) (spare known area more : List ℕ) (arena : Arena) → IsGrid nb size rows count gained columns spare known area arena
@@ -537,9 +538,9 @@ no_file columns spare known area arena shaped =
 
 -- what the pass wrote, by the fields of the table
 pub wrote_parts : (nb size cell : ℕ) (columns columns' : List Column) (area now area' : List ℕ) (arena arena' : Arena) → columns' ≡ columns → now ≡ area → arena' ≡ arena → cell ≡ size
-    → ((c : ℕ) → chunk c cell area' ≡ part_in cell now arena' c (get_or (take nb columns') c Free)) → (c : ℕ) → chunk c size area' ≡ part_in size area arena c (get_or (take nb columns) c Free)
+    → ((c : ℕ) → stretch c cell area' ≡ part_in cell now arena' c (get_or (take nb columns') c Free)) → (c : ℕ) → stretch c size area' ≡ part_in size area arena c (get_or (take nb columns) c Free)
 wrote_parts nb size cell columns columns' area now area' arena arena' e f g h put =
-    let P : ℕ → List ℕ → Arena → List Column → Type 0 = λ n l a os. (c : ℕ) → chunk c n area' ≡ part_in n l a c (get_or (take nb os) c Free) in
+    let P : ℕ → List ℕ → Arena → List Column → Type 0 = λ n l a os. (c : ℕ) → stretch c n area' ≡ part_in n l a c (get_or (take nb os) c Free) in
     subst (λ os. P size area arena os) e (subst (λ a. P size area a columns') g (subst (λ l. P size l arena' columns') f (subst (λ n. P n now arena' columns') h put)))
 
 -- what holds of a call that went well

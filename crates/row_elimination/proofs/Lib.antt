@@ -1,7 +1,6 @@
 pub mod Agreeing
 pub mod Telling
 pub mod Lines
-pub mod Chunks
 pub mod Reducing
 pub mod Growing
 pub mod Blocks

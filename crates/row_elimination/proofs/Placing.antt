@@ -6,7 +6,8 @@ use Rattle.row_arena.specs.Rows.{Arena, Row as Line, row_at, with_row}
 use Rattle.row_elimination.specs.declared.columns.Column.{Column}
 use Rattle.row_elimination.specs.declared.columns.Column.TheVariants.{Free, Piece, Row}
 use Rattle.row_elimination.specs.HeldPlaces.{Place, free, piece, row}
-use Rattle.row_elimination.specs.HeldStorage.{chunk, place_in, places_in, part_in}
+use Rattle.row_arena.specs.Stretch.{stretch}
+use Rattle.row_elimination.specs.HeldStorage.{place_in, places_in, part_in}
 use Rattle.row_elimination.proofs.Storing.{at_places, length-places, with_here, with_others}
 
 -- the storage says the same of all columns but one
@@ -29,19 +30,19 @@ places_set size area area' arena arena' os os' k x lt sized here others =
           ∙ sym (get_or-set_other old k c x free other)
     ])
 
-place_piece : (size : ℕ) (area area' : List ℕ) (arena : Arena) (c : ℕ) (o : Column) → chunk c size area' ≡ chunk c size area
+place_piece : (size : ℕ) (area area' : List ℕ) (arena : Arena) (c : ℕ) (o : Column) → stretch c size area' ≡ stretch c size area
     → place_in size area' arena c o ≡ place_in size area arena c o
 unfolding place_in
 place_piece size area area' arena c Free e = refl
 place_piece size area area' arena c Piece e = ap piece e
 place_piece size area area' arena c (Row slot) e = refl
 
-is_piece_place : (size : ℕ) (area : List ℕ) (arena : Arena) (c : ℕ) (o : Column) (part : List ℕ) → o ≡ Piece → chunk c size area ≡ part → place_in size area arena c o ≡ piece part
+is_piece_place : (size : ℕ) (area : List ℕ) (arena : Arena) (c : ℕ) (o : Column) (part : List ℕ) → o ≡ Piece → stretch c size area ≡ part → place_in size area arena c o ≡ piece part
 unfolding place_in
 is_piece_place size area arena c o part is e = ap (place_in size area arena c) is ∙ ap piece e
 
 pub piece_put : (size : ℕ) (area area' : List ℕ) (arena : Arena) (os : List Column) (k : ℕ) (part : List ℕ) → k < length os
-    → chunk k size area' ≡ part → ((j : ℕ) → j ≢ k → chunk j size area' ≡ chunk j size area)
+    → stretch k size area' ≡ part → ((j : ℕ) → j ≢ k → stretch j size area' ≡ stretch j size area)
     → places_in size area' arena (set os k Piece) ≡ set (places_in size area arena os) k (piece part)
 piece_put size area area' arena os k part lt here others =
     places_set size area area' arena arena os (set os k Piece) k (piece part) lt (length-set os k Piece)
@@ -72,7 +73,7 @@ row_put size area arena arena' os slot p r lt slt e alone =
 
 -- ---- parts put where the pieces belong
 
-pub part_stays : (size : ℕ) (area : List ℕ) (arena : Arena) (c : ℕ) (o : Column) → (o ≡ Free) ⊎ (o ≡ Piece) → chunk c size area ≡ part_in size area arena c o
+pub part_stays : (size : ℕ) (area : List ℕ) (arena : Arena) (c : ℕ) (o : Column) → (o ≡ Free) ⊎ (o ≡ Piece) → stretch c size area ≡ part_in size area arena c o
 unfolding part_in
 part_stays size area arena c o (inl is) = sym (ap (part_in size area arena c) is)
 part_stays size area arena c o (inr is) = sym (ap (part_in size area arena c) is)
@@ -82,21 +83,21 @@ unfolding part_in
 part_is size area arena now c slot o is e = e ∙ sym (ap (part_in size area arena c) is)
 
 pub record Putting (size : ℕ) (os : List Column) (area area' : List ℕ) (arena : Arena) (c : ℕ) : Type 0 where
-  pub done : (d : ℕ) → d < c → chunk d size area' ≡ part_in size area arena d (get_or os d Free)
-  pub left : (d : ℕ) → c ≤ d → chunk d size area' ≡ chunk d size area
+  pub done : (d : ℕ) → d < c → stretch d size area' ≡ part_in size area arena d (get_or os d Free)
+  pub left : (d : ℕ) → c ≤ d → stretch d size area' ≡ stretch d size area
 
-part_of_same : (size : ℕ) (area area' : List ℕ) (arena : Arena) (c : ℕ) (o : Column) → chunk c size area' ≡ chunk c size area → part_in size area' arena c o ≡ part_in size area arena c o
+part_of_same : (size : ℕ) (area area' : List ℕ) (arena : Arena) (c : ℕ) (o : Column) → stretch c size area' ≡ stretch c size area → part_in size area' arena c o ≡ part_in size area arena c o
 unfolding part_in
 part_of_same size area area' arena c Free e = e
 part_of_same size area area' arena c Piece e = e
 part_of_same size area area' arena c (Row slot) e = refl
 
-pub putting_turn : (size : ℕ) (os : List Column) (area now area' : List ℕ) (arena : Arena) (c : ℕ) → chunk c size area' ≡ part_in size now arena c (get_or os c Free)
-    → ((d : ℕ) → d ≢ c → chunk d size area' ≡ chunk d size now) → Putting size os area now arena c → Putting size os area area' arena (c + 1)
+pub putting_turn : (size : ℕ) (os : List Column) (area now area' : List ℕ) (arena : Arena) (c : ℕ) → stretch c size area' ≡ part_in size now arena c (get_or os c Free)
+    → ((d : ℕ) → d ≢ c → stretch d size area' ≡ stretch d size now) → Putting size os area now arena c → Putting size os area area' arena (c + 1)
 putting_turn size os area now area' arena c here others h = record {
   done = λ d lt. elim (cases_eq d c) [
     | inl same ↦
-        let P : ℕ → Type 0 = λ n. chunk n size area' ≡ part_in size area arena n (get_or os n Free) in
+        let P : ℕ → Type 0 = λ n. stretch n size area' ≡ part_in size area arena n (get_or os n Free) in
         subst P (sym same) (here ∙ part_of_same size area now arena c (get_or os c Free) (h.left c (omega arith)))
     | inr other ↦ others d other ∙ h.done d (omega arith)
   ];
@@ -104,7 +105,7 @@ putting_turn size os area now area' arena c here others h = record {
 }
 
 pub putting_ends : (size : ℕ) (os : List Column) (area area' : List ℕ) (arena : Arena) (c : ℕ) → length os ≤ c → Putting size os area area' arena c
-    → (d : ℕ) → chunk d size area' ≡ part_in size area arena d (get_or os d Free)
+    → (d : ℕ) → stretch d size area' ≡ part_in size area arena d (get_or os d Free)
 unfolding part_in
 putting_ends size os area area' arena c past h d = elim (cases_lt d c) [
   | inl lt ↦ h.done d lt

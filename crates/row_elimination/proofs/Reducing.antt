@@ -14,8 +14,8 @@ use Rattle.row_elimination.specs.Inside.{IsReduced}
 use Rattle.row_elimination.proofs.Agreeing.{agrees_xor, agrees_same, xor_right}
 use Rattle.row_elimination.proofs.Telling.{Tells, told-sum}
 pub use Rattle.row_elimination.specs.HeldSteps.{Reduced, Taken}
-use Rattle.row_elimination.specs.HeldStorage.{chunk}
-use Rattle.row_elimination.proofs.Chunks.{get_or-chunk}
+use Rattle.row_arena.specs.Stretch.{stretch}
+use Rattle.row_arena.proofs.Stretched.{get_or-stretch}
 use Rattle.row_arena.specs.Sums.{after_pieces, after_flips}
 
 pub piece_xor : (size : ℕ) (p q : List ℕ) → IsPiece size p → IsPiece size q → IsPiece size (xor_bytes p q)
@@ -58,18 +58,18 @@ taken_more cols size ps line part c l q e t here h = record {
 -- the part with the picked pieces added
 summed : ℕ → List ℕ → List ℕ → List ℕ → List ℕ
 summed size area q [] = q
-summed size area q (k ∷ ks) = summed size area (xor_bytes q (chunk k size area)) ks
+summed size area q (k ∷ ks) = summed size area (xor_bytes q (stretch k size area)) ks
 
 get_or-summed : (size : ℕ) (area q ks : List ℕ) (i : ℕ) → i < size → get_or (summed size area q ks) i 0 ≡ after_pieces size area i (get_or q i 0) ks
 unfolding after_pieces summed
 get_or-summed size area q [] i lt = refl
 get_or-summed size area q (k ∷ ks) i lt =
-    get_or-summed size area (xor_bytes q (chunk k size area)) ks i lt
-    ∙ ap (λ b. after_pieces size area i b ks) (get_or-xor_bytes q (chunk k size area) i ∙ ap (bit_xor (get_or q i 0)) (get_or-chunk k size i area 0 lt))
+    get_or-summed size area (xor_bytes q (stretch k size area)) ks i lt
+    ∙ ap (λ b. after_pieces size area i b ks) (get_or-xor_bytes q (stretch k size area) i ∙ ap (bit_xor (get_or q i 0)) (get_or-stretch k size i area 0 lt))
 
 -- the piece of the area that a column tells
 abbrev pub piece_at : ℕ → List ℕ → ℕ → Equation
-piece_at size area k = record { line = 2 ^ k; part = chunk k size area }
+piece_at size area k = record { line = 2 ^ k; part = stretch k size area }
 
 taken_list : (cols size : ℕ) (ps : List Place) (line : ℕ) (part : List ℕ) (l : ℕ) (area q ks : List ℕ) → IsReduced cols size ps
     → ((n : ℕ) → n < length ks → Tells ps (get_or ks n 0) (piece_at size area (get_or ks n 0)))
@@ -77,7 +77,7 @@ taken_list : (cols size : ℕ) (ps : List Place) (line : ℕ) (part : List ℕ) 
 unfolding after_flips summed
 taken_list cols size ps line part l area q [] t told h = h
 taken_list cols size ps line part l area q (k ∷ ks) t told h =
-    taken_list cols size ps line part (bit_xor l (2 ^ k)) area (xor_bytes q (chunk k size area)) ks t (λ n lt. told (suc n) (omega arith))
+    taken_list cols size ps line part (bit_xor l (2 ^ k)) area (xor_bytes q (stretch k size area)) ks t (λ n lt. told (suc n) (omega arith))
     (taken_more cols size ps line part k l q (piece_at size area k) t (told 0 (omega arith)) h)
 
 -- the picked pieces were taken out: the bytes that are left are their sum with the part

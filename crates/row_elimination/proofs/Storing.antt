@@ -17,7 +17,7 @@ use Rattle.row_elimination.specs.HeldStorage.{place_in, places_from, places_in, 
 use Rattle.row_elimination.specs.HeldSteps.{Tells, Taken, Reduced, TakesRow}
 use Rattle.row_elimination.proofs.Lines.{sum_is}
 use Rattle.row_elimination.proofs.Growing.{at_all_cleared, length-all_cleared}
-use Rattle.row_elimination.proofs.Chunks.{chunk_within}
+use Rattle.row_arena.proofs.Stretched.{stretch_within}
 use Rattle.row_elimination.proofs.Reducing.{taken_begins, taken_more, taken_picks, piece_at}
 
 at_from : (size : ℕ) (area : List ℕ) (arena : Arena) (c k : ℕ) (os : List Column)
@@ -97,7 +97,7 @@ pub known_room : (size : ℕ) (area : List ℕ) (arena : Arena) (os : List Colum
     → get_or (take count picks) n 0 * size + size ≤ length area
 known_room size area arena os known n count picks marks on lt reduced =
     let c : ℕ = get_or (take count picks) n 0 in
-    chunk_within c size area (reduced.part c (piece_at size area c) (piece_told size area arena c os (known_column size area arena os known n count picks marks on lt))).sized
+    stretch_within c size area (reduced.part c (piece_at size area c) (piece_told size area arena c os (known_column size area arena os known n count picks marks on lt))).sized
 
 pub pieces_taken : (size : ℕ) (area : List ℕ) (arena : Arena) (os : List Column) (known line count : ℕ) (picks : List ℕ) (left : ℕ) (part rest : List ℕ)
     → IsReduced (length os) size (places_in size area arena os) → Marks known (places_in size area arena os) → IsPiece size part → line < 2 ^ length os

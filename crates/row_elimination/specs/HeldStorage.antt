@@ -1,19 +1,16 @@
 -- Where the places are: pieces in the area, one after the other; the line and the part of each row in a slot of the arena.
-use Rattle.std.specs.Prelude.{◌≡◌, ◌≢◌, ℕ, suc, ◌*◌, ◌^◌, ◌<◌, ◌≤◌, List, [], ◌∷◌, length, take, drop, get_or, set, ◌==◌, if◌then◌else◌}
+use Rattle.std.specs.Prelude.{◌≡◌, ◌≢◌, ℕ, suc, ◌^◌, ◌<◌, ◌≤◌, List, [], ◌∷◌, length, get_or, set, ◌==◌, if◌then◌else◌}
 use Rattle.std.specs.Int.{bit_at}
 use Rattle.row_arena.specs.Rows.{Arena, Row as Line, row_at, row_sum, line_in, words_for}
+use Rattle.row_arena.specs.Stretch.{stretch}
 use Rattle.row_elimination.specs.declared.columns.Column.{Column}
 use Rattle.row_elimination.specs.declared.columns.Column.TheVariants.{Free, Piece, Row}
 use Rattle.row_elimination.specs.HeldPlaces.{Place, free, piece, row}
 
--- the k-th stretch of this size
-unfoldable pub chunk : {A : Type 0} → ℕ → ℕ → List A → List A
-chunk k size xs = take size (drop (k * size) xs)
-
 -- what the storage says of column c
 unfoldable pub place_in : ℕ → List ℕ → Arena → ℕ → Column → Place
 place_in size area arena c Free = free
-place_in size area arena c Piece = piece (chunk c size area)
+place_in size area arena c Piece = piece (stretch c size area)
 place_in size area arena c (Row slot) = row (row_at arena slot).line (row_at arena slot).part
 
 -- what it says of the columns from c on
@@ -61,8 +58,8 @@ pub record ClearsAll (p y : ℕ) (q : List ℕ) (old new : Arena) : Type 0 where
 
 -- what is kept of a column once its piece is in the area: there the piece, or in its slot the part of its row
 unfoldable pub part_in : ℕ → List ℕ → Arena → ℕ → Column → List ℕ
-part_in size area arena c Free = chunk c size area
-part_in size area arena c Piece = chunk c size area
+part_in size area arena c Free = stretch c size area
+part_in size area arena c Piece = stretch c size area
 part_in size area arena c (Row slot) = (row_at arena slot).part
 
 -- which slots are in use: each by one column, and the spare ones by none

@@ -7,7 +7,7 @@ use Rattle.row_elimination.specs.declared.stages.Fed.{Fed}
 use Rattle.row_elimination.specs.declared.stages.Fed.TheVariants as fed
 use Rattle.row_elimination.specs.HeldPlaces.{rows_held, gained_held}
 use Rattle.row_elimination.specs.Inside.{IsReduced}
-use Rattle.row_elimination.specs.HeldStorage.{chunk}
+use Rattle.row_arena.specs.Stretch.{stretch}
 use Rattle.row_elimination.specs.HeldSteps.{Reduced, Tells}
 use Rattle.row_elimination.specs.HeldTable.{Grid, SameRoom}
 use Rattle.row_elimination.specs.HeldSolver.{Held, Receives, Completes, Contradicts, Overflows}
@@ -62,6 +62,6 @@ unfoldable pub DecidedAs : Fed → Grid → Grid → Type 0
 DecidedAs fed.Receiving old new = (new ≡ old) × (gained_held old.places < old.shape.nb_frag)
 DecidedAs fed.Complete old new =
     (new.places ≡ old.places) × SameRoom old new × (gained_held old.places ≡ old.shape.nb_frag)
-    × ((c : ℕ) (e : Equation) → Tells old.places c e → chunk c old.shape.frag_size new.area ≡ e.part)
+    × ((c : ℕ) (e : Equation) → Tells old.places c e → stretch c old.shape.frag_size new.area ≡ e.part)
 DecidedAs fed.NoRows old new = ⊥
 DecidedAs fed.Conflict old new = ⊥

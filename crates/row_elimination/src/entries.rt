@@ -4,7 +4,8 @@ ghost use Rattle.std.specs.Prelude.{◌≡◌, ◌≢◌, ℕ, ◌+◌, ◌*◌,
 ghost use Rattle.row_arena.specs.Rows.{Arena, line_in};
 ghost use Rattle.row_elimination.specs.PackedColumns.{last_slot};
 ghost use Rattle.row_elimination.specs.HeldPlaces.{piece, row};
-ghost use Rattle.row_elimination.specs.HeldStorage.{chunk, part_in, places_in, IsRowOf, SameShape};
+ghost use Rattle.row_arena.specs.Stretch.{stretch};
+ghost use Rattle.row_elimination.specs.HeldStorage.{part_in, places_in, IsRowOf, SameShape};
 
 use crate::bytes::put_at;
 use crate::columns::{Column, PackedColumn};
@@ -54,7 +55,7 @@ pub fn put_parts<const W: usize, const B: usize>(
     requires room { length columns.now * arena.now.cell ≤ length area.old }
     requires rows { (c slot : ℕ) → get_or columns.now c Column.Free ≡ Column.Row slot
         → slot < length arena.now.rows }
-    ensures { (c : ℕ) → chunk c arena.now.cell area.new
+    ensures { (c : ℕ) → stretch c arena.now.cell area.new
         ≡ part_in arena.now.cell area.old arena.now c (get_or columns.now c Column.Free) }
 {
     for c in 0..columns.len() {
@@ -71,10 +72,10 @@ fn put_part<const W: usize, const B: usize>(
 )
     requires room { c * arena.now.cell + arena.now.cell ≤ length area.old }
     requires rows { (slot : ℕ) → column ≡ Column.Row slot → slot < length arena.now.rows }
-    ensures here { chunk c arena.now.cell area.new
+    ensures here { stretch c arena.now.cell area.new
         ≡ part_in arena.now.cell area.old arena.now c column }
     ensures others { (d : ℕ) → d ≢ c
-        → chunk d arena.now.cell area.new ≡ chunk d arena.now.cell area.old }
+        → stretch d arena.now.cell area.new ≡ stretch d arena.now.cell area.old }
 {
     match column {
         Column::Free => {}

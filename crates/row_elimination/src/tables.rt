@@ -13,7 +13,7 @@ ghost use Rattle.row_elimination.specs.Work.{AddsColumns};
 
 mod filling;
 
-use crate::bytes::chunk;
+use crate::bytes::stretch;
 use crate::columns::{Column, PackedColumn};
 use crate::passes::reduce;
 use crate::widening::{forget, free_all, spare_all};
@@ -161,7 +161,7 @@ impl<const W: usize, const B: usize> Table<W, B> {
     {
         match self.columns[k].column() {
             Column::Free => None,
-            Column::Piece => Some(chunk(&self.area, k, self.frag_size as usize)),
+            Column::Piece => Some(stretch(&self.area, k, self.frag_size as usize)),
             Column::Row(_) => None,
         }
     }

@@ -4,7 +4,7 @@ ghost use Rattle.std.specs.Prelude.{◌≡◌, ℕ, ◌+◌, ◌*◌, ◌<◌, �
 ghost use Rattle.frag_model.specs.Fragments.{Equation, IsPiece};
 ghost use Rattle.row_arena.specs.Rows.{line_in, words_for};
 ghost use Rattle.row_elimination.specs.HeldPlaces.{free, piece as known, grown, rows_held};
-ghost use Rattle.row_elimination.specs.HeldStorage.{chunk};
+ghost use Rattle.row_arena.specs.Stretch.{stretch};
 ghost use Rattle.row_elimination.specs.HeldSteps.{Knows, Tells};
 ghost use Rattle.row_elimination.specs.HeldTable.{IsPut, SameRoom};
 ghost use Rattle.row_elimination.specs.Asked.{MayPush, MayLearn};
@@ -164,7 +164,7 @@ impl<const W: usize, const B: usize> Table<W, B> {
     pub fn finish(&mut self)
         ensures places { self.new.places ≡ self.old.places }
         ensures parts { (c : ℕ) (e : Equation) → Tells self.old.places c e
-            → chunk c self.old.shape.frag_size self.new.area ≡ e.part }
+            → stretch c self.old.shape.frag_size self.new.area ≡ e.part }
         ensures room { SameRoom self.old self.new }
     {
         self.reach(self.nb_frag as usize * self.frag_size as usize);
@@ -177,7 +177,7 @@ impl<const W: usize, const B: usize> Table<W, B> {
             ≤ length self.old.area }
         ensures places { self.new.places ≡ self.old.places }
         ensures parts { (c : ℕ) (e : Equation) → Tells self.old.places c e
-            → chunk c self.old.shape.frag_size self.new.area ≡ e.part }
+            → stretch c self.old.shape.frag_size self.new.area ≡ e.part }
         ensures room { SameRoom self.old self.new }
     {
         let columns = &self.columns[..self.nb_frag as usize];

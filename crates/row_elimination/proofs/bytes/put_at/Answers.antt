@@ -1,5 +1,5 @@
 use Rattle.std.proofs.Common.{length, ◌∙◌, ap, arith}
-use Rattle.row_elimination.proofs.Chunks.{put_there, put_others}
+use Rattle.row_arena.proofs.Stretched.{put_there, put_others}
 use Rattle.row_elimination.proofs.bytes.put_at.Goals as goal
 
 pub returns-clause-there : goal.returns-clause-there

@@ -1,5 +1,5 @@
 use Rattle.std.proofs.Common.{◌≡◌, ℕ, ◌∙◌, subst, inl, inr}
-use Rattle.row_elimination.specs.HeldStorage.{chunk}
+use Rattle.row_arena.specs.Stretch.{stretch}
 use Rattle.row_elimination.proofs.Placing.{part_stays, part_is}
 use Rattle.row_elimination.proofs.entries.put_part.Goals as goal
 
@@ -12,4 +12,4 @@ returns-in-Piece-clause-here g c = part_stays c.args.arena.now.cell c.args.area.
 pub returns-in-Row-clause-here : goal.returns-in-Row-clause-here
 returns-in-Row-clause-here g c =
     part_is c.args.arena.now.cell c.args.area.now c.args.arena.now _ c.args.c c.in-Row.slot c.args.column c.in-Row.is
-    (subst (λ (n : ℕ). chunk c.args.c n c.put_at.new.into ≡ c.bytes.result.now) c.bytes.ensures.len c.put_at.ensures.there ∙ c.bytes.ensures.part)
+    (subst (λ (n : ℕ). stretch c.args.c n c.put_at.new.into ≡ c.bytes.result.now) c.bytes.ensures.len c.put_at.ensures.there ∙ c.bytes.ensures.part)

@@ -1,7 +1,8 @@
 use Rattle.std.proofs.Common.{◌≡◌, ◌∙◌, length, refl, sym, subst, arith}
 use Rattle.row_elimination.specs.declared.columns.Column.{Column}
-use Rattle.row_elimination.specs.HeldStorage.{chunk, part_in}
-use Rattle.row_elimination.proofs.Chunks.{before}
+use Rattle.row_arena.specs.Stretch.{stretch}
+use Rattle.row_elimination.specs.HeldStorage.{part_in}
+use Rattle.row_arena.proofs.Stretched.{before}
 use Rattle.row_elimination.proofs.Packing.{read_there}
 use Rattle.row_elimination.proofs.Placing.{putting_turn, putting_ends}
 use Rattle.row_elimination.proofs.entries.put_parts.Goals as goal
@@ -12,7 +13,7 @@ loop-c-init g c = record { putting = record { done = λ d lt. absurd (omega arit
 pub loop-c-preserved : goal.loop-c-preserved
 loop-c-preserved g c = record {
   putting = putting_turn c.args.arena.now.cell c.args.columns.now c.args.area.now c.loop-c.area c.put_part.new.area c.args.arena.now c.loop-c.c
-      (subst (λ (o : Column). chunk c.loop-c.c c.args.arena.now.cell c.put_part.new.area ≡ part_in c.args.arena.now.cell c.loop-c.area c.args.arena.now c.loop-c.c o) (c.column.ensures.same ∙ read_there c.args.columns.now c.loop-c.c c.index-columns-c.result (omega (arith, c.loop-c-test.true)) c.index-columns-c.is) c.put_part.ensures.here) c.put_part.ensures.others c.loop-c.invariant.putting;
+      (subst (λ (o : Column). stretch c.loop-c.c c.args.arena.now.cell c.put_part.new.area ≡ part_in c.args.arena.now.cell c.loop-c.area c.args.arena.now c.loop-c.c o) (c.column.ensures.same ∙ read_there c.args.columns.now c.loop-c.c c.index-columns-c.result (omega (arith, c.loop-c-test.true)) c.index-columns-c.is) c.put_part.ensures.here) c.put_part.ensures.others c.loop-c.invariant.putting;
   sized = c.put_part.auto.area ∙ c.loop-c.invariant.sized;
 }
 

@@ -1,6 +1,7 @@
 use Rattle.std.proofs.Common.{◌<◌, ◌+◌, ◌*◌, ◌≤◌, ap, ap₂, sym, ◌∙◌, arith, length}
 use Rattle.row_arena.specs.Rows.{words_for, line_in}
-use Rattle.row_arena.specs.ArenaInside.{stretch, row_in}
+use Rattle.row_arena.specs.Stretch.{stretch}
+use Rattle.row_arena.specs.ArenaInside.{row_in}
 use Rattle.row_arena.proofs.Arenas.{row_seen, rows_counted, in_room}
 use Rattle.row_arena.proofs.arena.RowArena.words.Goals as goal
 

@@ -1,7 +1,7 @@
 use Rattle.std.proofs.Common.{◌≡◌, ℕ, length, take, ap, subst, ◌∙◌, arith}
 use Rattle.frag_model.specs.Fragments.{Equation}
 use Rattle.row_arena.specs.Rows.{Arena}
-use Rattle.row_elimination.specs.HeldStorage.{chunk}
+use Rattle.row_arena.specs.Stretch.{stretch}
 use Rattle.row_elimination.specs.HeldSteps.{Tells}
 use Rattle.row_elimination.specs.HeldTable.{Grid}
 use Rattle.row_elimination.proofs.Gridding.{written, wrote_parts, finished, finished_places, finished_parts}
@@ -37,7 +37,7 @@ pub returns-clause-parts : goal.returns-clause-parts
 returns-clause-parts g c =
     let s = c.self.inside in
     rw (written s.area.len c.put_parts.new.area s.area.items (c.put_parts.auto.area ∙ c.deref_mut.ensures.len))
-    (subst (λ (g : Grid). (d : ℕ) (e : Equation) → Tells g.places d e → chunk d g.shape.frag_size c.put_parts.new.area ≡ e.part) c.self.view_is
+    (subst (λ (g : Grid). (d : ℕ) (e : Equation) → Tells g.places d e → stretch d g.shape.frag_size c.put_parts.new.area ≡ e.part) c.self.view_is
     (finished_parts s.frag_size s.area.items c.put_parts.new.area s.arena.value (take s.nb_frag s.columns.items)
     (wrote_parts s.nb_frag s.frag_size c.deref-2.result.now.cell s.columns.items c.deref.result.now s.area.items c.deref_mut.result.now c.put_parts.new.area s.arena.value c.deref-2.result.now
     c.deref.ensures.value c.deref_mut.ensures.value c.deref-2.ensures (ap (λ (a : Arena). a.cell) c.deref-2.ensures ∙ c.self.invariant.grid.arena_cell) c.put_parts.ensures)))
