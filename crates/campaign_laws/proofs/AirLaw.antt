@@ -28,18 +28,11 @@ use Rattle.campaign_laws.proofs.Airing.{up_to_sent, may_alike, air_same}
 use Rattle.campaign_laws.proofs.HonestLines.{few_lines, Stands, first_stands, line_stands}
 use Rattle.campaign_laws.specs.Fields.{AllFit}
 use Rattle.campaign_laws.proofs.FormBytes.{script_fits}
+use Rattle.script_lines.proofs.FastForms.{words_after_down, words_after_air}
 use Rattle.campaign_world.proofs.FormCauses.{short_line, of_form}
 use Rattle.campaign_world.proofs.Lines.{said_form}
 
 -- ---- the form of the line with air
-
-behind_down : (rest : List ℕ) → words_of (codes "down " ++ rest) ≡ codes "down" ∷ words_of rest
-unfolding words_of
-behind_down rest = refl
-
-behind_air : (rest : List ℕ) → words_of (codes "air " ++ rest) ≡ codes "air" ∷ words_of rest
-unfolding words_of
-behind_air rest = refl
 
 form_by : (line other : List ℕ) (ws : List (List ℕ)) → words_of line ≡ codes "down" ∷ ws → words_of other ≡ codes "air" ∷ ws
     → form_of other ≡ in_the_air (form_of line)
@@ -49,7 +42,7 @@ form_by line other ws one more = rw (one, more) refl
 air_form_is : (rest : List ℕ) (number device word : ℕ) → form_of (codes "down " ++ rest) ≡ Some (Down number device word)
     → form_of (codes "air " ++ rest) ≡ Some (Air number device word)
 air_form_is rest number device word is =
-    form_by (codes "down " ++ rest) (codes "air " ++ rest) (words_of rest) (behind_down rest) (behind_air rest) ∙ ap in_the_air is
+    form_by (codes "down " ++ rest) (codes "air " ++ rest) (words_of rest) (words_after_down rest) (words_after_air rest) ∙ ap in_the_air is
 
 -- ---- it is taken too
 

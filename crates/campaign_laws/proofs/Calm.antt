@@ -125,7 +125,7 @@ far_calm (Sync (s.DevRebootCountdownReq count)) port far listed = absurd (far (o
 far_calm (Sync cmd) port far listed = refl
 far_calm (Cast cmd) port far listed = refl
 
-all_far : (xs : List Command) (port : ℕ) (bytes : List ℕ) (from end : ℕ) → (port ≡ 203 → ⊥) → SpellsTo xs port Down bytes from end → AllByRecursion (λ x. is_calm x ≡ true) xs
+pub all_far : (xs : List Command) (port : ℕ) (bytes : List ℕ) (from end : ℕ) → (port ≡ 203 → ⊥) → SpellsTo xs port Down bytes from end → AllByRecursion (λ x. is_calm x ≡ true) xs
 all_far [] port bytes from end far all = tt
 all_far (x ∷ xs) port bytes from end far all = (far_calm x port far all.1.listed, all_far xs port bytes all.0 end far all.2)
 

@@ -26,10 +26,12 @@ use Rattle.device_core.specs.Deliver.{Outcome, message_delivery, read_delivery, 
 use Rattle.campaign_world.specs.Honest.{is_for_others, are_for_others}
 use Rattle.campaign_laws.specs.Headline.{HasNoOther}
 use Rattle.device_core.proofs.Stays.{Stays, reboot_keeps, still_between}
+use Rattle.device_core.proofs.Acting.{fragment_acts}
 use Rattle.campaign_laws.proofs.HeadlineCommands.{Cut}
 use Rattle.campaign_laws.proofs.OwnGroups.{reboot_groups}
 use Rattle.campaign_laws.proofs.Calm.{IsUntouched, due_calm}
 use Rattle.campaign_laws.proofs.LedgerDevices.{IsSound, Goes, goes_on, reboot_goes}
+use Rattle.campaign_laws.proofs.HeadlinePayloads.{status_acts}
 
 -- one is the other except for its counters
 abbrev pub IsAlike : (d e : DeviceState) → Type 0
@@ -47,14 +49,6 @@ apart own table index other alone =
     differs : (b : Bool) → (index == own) ≡ b → not b ≡ true → (index ≡ own → ⊥)
     differs true is not is_own = cc
     differs false is not is_own = eqb-false _ _ is is_own
-
-fragment_acts : (way : Via) (index n : ℕ) (part : List ℕ) → acts way (Cast (DataFragment index n part)) ≡ true
-fragment_acts via.Unicast index n part = refl
-fragment_acts (via.Group g) index n part = refl
-
-status_acts : (way : Via) (index : ℕ) (all : Bool) → acts way (Cast (FragSessionStatusReq index all)) ≡ true
-status_acts via.Unicast index all = refl
-status_acts (via.Group g) index all = refl
 
 unanswered : (d : DeviceState) → IsAlike d (after_answers (no_answer d))
 unfolding after_answers

@@ -38,6 +38,7 @@ use Rattle.device_core.specs.Step.{command_step, acts, step, after_commands, wei
 use Rattle.device_core.proofs.Stays.{Moves, Stays, stays_on, reboot_keeps, between, still_between}
 use Rattle.campaign_laws.proofs.OwnSession.{put_back}
 use Rattle.device_core.specs.Deliver.{Outcome, message_delivery, read_delivery, via_of, arrival, heard_delivery, delivery}
+use Rattle.device_core.proofs.Acting.{fragment_acts}
 use Rattle.campaign_server.specs.Server.{DownlinkCommand, port_of, downlink_of}
 use Rattle.campaign_laws.proofs.HeadlineCommands.{Cut, setup_req, setup_request, fragment_command, IsElsewhere, IsOther, IsNumber, IsSentOf, IsCut, IsGood, setup_good, fragment_good, status_good, sync_high, good_read}
 
@@ -145,12 +146,8 @@ status_stays : (at : Arrival) (m : DeviceState) (index : ℕ) (all : Bool)
 unfolding command_step status_step
 status_stays at m index all = record { config = refl; sessions = refl }
 
--- both act by a group too
-fragment_acts : (way : Via) (index n : ℕ) (part : List ℕ) → acts way (Cast (DataFragment index n part)) ≡ true
-fragment_acts via.Unicast index n part = refl
-fragment_acts (via.Group g) index n part = refl
-
-status_acts : (way : Via) (index : ℕ) (all : Bool) → acts way (Cast (FragSessionStatusReq index all)) ≡ true
+-- it acts by a group too
+pub status_acts : (way : Via) (index : ℕ) (all : Bool) → acts way (Cast (FragSessionStatusReq index all)) ≡ true
 status_acts via.Unicast index all = refl
 status_acts (via.Group g) index all = refl
 

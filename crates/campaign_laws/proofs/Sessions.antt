@@ -15,6 +15,7 @@ use Rattle.frag_encoder.proofs.Blocks.{block_shaped}
 use Rattle.frag_session.specs.declared.answers.Verdict.TheVariants as shown
 use Rattle.frag_session.specs.Session.{Session, seen_of, shape_of, shown_verdict}
 use Rattle.frag_session.proofs.FirstMoments.{decided_at_first}
+use Rattle.frag_session.proofs.FirstMoments.{shown_receiving, shown_complete}
 use Rattle.campaign_laws.specs.Headline.{IsFragmentOf, IsRecovered}
 use Rattle.campaign_laws.proofs.HeadlineCommands.{Cut}
 use Rattle.campaign_laws.proofs.HeadlineEnds.{IsSetFor}
@@ -74,20 +75,6 @@ missing_none shape (f ∷ older) mark block is =
     missing_by (verdict shape older) (verdict_now shape (f ∷ older) f.mark) mark block (missing shape older) (lacking shape (f ∷ older)) (lacking shape older) is
     (λ was. missing_none shape older mark block was)
 
-shown_receives : (v : Verdict) → shown_verdict v ≡ shown.Receiving → v ≡ receiving
-unfolding shown_verdict
-shown_receives receiving is = refl
-shown_receives (complete mark block) is = absurd cc
-shown_receives (no_rows mark) is = absurd cc
-shown_receives (conflict mark) is = absurd cc
-
-shown_complete : (v : Verdict) (mark : ℕ) → shown_verdict v ≡ shown.Complete mark → (block : List (List ℕ)) × (v ≡ complete mark block)
-unfolding shown_verdict
-shown_complete receiving mark is = absurd cc
-shown_complete (complete at block) mark is = let same : at ≡ mark = cc in (block, ap (λ (n : ℕ). complete n block) same)
-shown_complete (no_rows at) mark is = absurd cc
-shown_complete (conflict at) mark is = absurd cc
-
 -- ---- a session of the server's
 
 -- its setup is the server's, its rows are 64, and it heard fragments of the image
@@ -113,7 +100,7 @@ fragments_numbered image (f ∷ heard) all = (all.0.first, fragments_numbered im
 pub something_missing : (image : List ℕ) (x : Session) → All (λ b. b < 2 ^ 8) image → IsOurs image x → (seen_of x).verdict ≡ shown.Receiving → 1 ≤ (seen_of x).missing
 unfolding seen_of
 something_missing image x bytes ours is =
-    missing_some (shape_of x) x.heard (fragments_numbered image x.heard ours.set.heard) (shape_is image x bytes ours).0.makes.some (shown_receives (verdict (shape_of x) x.heard) is)
+    missing_some (shape_of x) x.heard (fragments_numbered image x.heard ours.set.heard) (shape_is image x bytes ours).0.makes.some (shown_receiving (verdict (shape_of x) x.heard) is)
 
 pub nothing_missing : (x : Session) (mark : ℕ) → (seen_of x).verdict ≡ shown.Complete mark → (seen_of x).missing ≡ 0
 unfolding seen_of

@@ -260,7 +260,7 @@ keeps_until seen here first mid new e f all c cs flash laid later acted keeps = 
 
 -- ---- a fragment that is a message by itself
 
-fragment_acts : (way : Via) (index n : ℕ) (part : List ℕ) → acts way (Cast (c.DataFragment index n part)) ≡ true
+pub fragment_acts : (way : Via) (index n : ℕ) (part : List ℕ) → acts way (Cast (c.DataFragment index n part)) ≡ true
 fragment_acts via.Unicast index n part = refl
 fragment_acts (via.Group g) index n part = refl
 

@@ -151,7 +151,7 @@ moment_of shape padding Holds heard mark v makes some means is =
 
 -- ---- what is shown
 
-shown_complete : (v : Verdict) (mark : ℕ) → shown_verdict v ≡ shown.Complete mark → (block : List (List ℕ)) × (v ≡ complete mark block)
+pub shown_complete : (v : Verdict) (mark : ℕ) → shown_verdict v ≡ shown.Complete mark → (block : List (List ℕ)) × (v ≡ complete mark block)
 unfolding shown_verdict
 shown_complete receiving mark is = absurd cc
 shown_complete (complete at block) mark is = let same : at ≡ mark = cc in (block, ap (λ (n : ℕ). complete n block) same)
@@ -172,7 +172,7 @@ shown_conflict (complete at block) mark is = absurd cc
 shown_conflict (no_rows at) mark is = absurd cc
 shown_conflict (conflict at) mark is = let same : at ≡ mark = cc in ap conflict same
 
-shown_receiving : (v : Verdict) → shown_verdict v ≡ shown.Receiving → v ≡ receiving
+pub shown_receiving : (v : Verdict) → shown_verdict v ≡ shown.Receiving → v ≡ receiving
 unfolding shown_verdict
 shown_receiving receiving is = refl
 shown_receiving (complete at block) is = absurd cc

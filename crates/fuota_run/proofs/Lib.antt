@@ -3,7 +3,6 @@ pub mod Writing
 pub mod Taken
 pub mod AnswerLemmas
 pub mod PairAnswers
-pub mod Outcomes
 pub mod Playing
 pub mod CommandLine
 pub mod FormWords

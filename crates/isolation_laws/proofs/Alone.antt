@@ -41,6 +41,7 @@ use Rattle.isolation_laws.specs.Isolation.{unreached, lines_alone, DifferInCount
 use Rattle.isolation_laws.proofs.Rested.{Rested, reached_alike}
 use Rattle.isolation_laws.proofs.Goes.{pair_read, pair_first, pair_last, AllGo, all_go}
 use Rattle.isolation_laws.proofs.Alike.{IsPlace, Like, form_like, form_fine}
+use Rattle.pair_run.proofs.Unrefused.{cause_is}
 
 -- ---- a payload of the other reaches a device
 
@@ -147,10 +148,6 @@ few_by false rest fine = refl
 few_lines : (w : WorldState) (line : Line) → cause_of w line ≡ None → nat_le max_lines w.lines ≡ false
 unfolding cause_of
 few_lines w line fine = few_by (nat_le max_lines w.lines) _ fine
-
-cause_is : (v : WorldState) (said : Said) → nat_le max_lines v.lines ≡ false → said_cause v said ≡ None → cause_of v (Ok said) ≡ None
-unfolding cause_of
-cause_is v said few none = rw few none
 
 reads : (image : List ℕ) (index : ℕ) (w v : WorldState) (said : Said) → Stands image index w → Rested index w → said_cause w said ≡ None
     → cause_of w (Ok said) ≡ None → has_raw index (Ok said) ≡ false → Like w v → Reads w v said

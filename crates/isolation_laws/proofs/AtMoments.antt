@@ -40,7 +40,7 @@ use Rattle.isolation_laws.specs.Isolation.{DifferInCounters}
 use Rattle.isolation_laws.specs.AtMoments.{names_it, names_one_of, is_event_of, IsAtMoment, StandsFor, AreMoments, at_text, with_moments, AreBothTold, IsOneBeside, OthersEventsAreMoments, ScriptsAreIsolated}
 use Rattle.isolation_laws.proofs.Rested.{Rested}
 use Rattle.isolation_laws.proofs.Goes.{pair_read, pair_first, pair_last, Goes, AllGo, all_go}
-use Rattle.isolation_laws.proofs.Taken.{unrefused, MayReach, said_fine, said_by, after_is}
+use Rattle.pair_run.proofs.Unrefused.{unrefused, MayReach, said_fine, said_by, after_is}
 use Rattle.isolation_laws.proofs.Alone.{ended_side, told_by}
 use Rattle.isolation_laws.proofs.Naming.{form_spelt}
 use Rattle.isolation_laws.proofs.Whose.{IsOf, IsOfOther, of_it, of_other, same_target, timeless}

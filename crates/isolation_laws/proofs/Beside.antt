@@ -39,7 +39,7 @@ use Rattle.pair_run.specs.PairCauses.{pair_cause_of, common_cause, both_cause, c
 use Rattle.pair_run.specs.PairMaking.{said_to, reached_by, joined, newcomers, after_target}
 use Rattle.pair_run.proofs.Accepts.{neither, cut_cause, sent_there}
 use Rattle.isolation_laws.proofs.Rested.{Rested}
-use Rattle.isolation_laws.proofs.Taken.{side_behind}
+use Rattle.pair_run.proofs.Unrefused.{side_after}
 use Rattle.isolation_laws.proofs.Whose.{IsOf, IsOfOther, IsLone, IsTimeless}
 use Rattle.isolation_laws.proofs.Close.{Close, Passed, IsCalm, near_takes, close_form, close_more, close_fine, close_reached, now_fine, close_now, close_passed, quiet_fine, passed_quiet, passed_more, passed_calm, event_begins}
 
@@ -267,8 +267,8 @@ time_fits w said fine low = low
 pub clock_behind : (p : PairState) (t : Target) → IsTimeless t → ((z : Campaign) → said_cause (side p z) (said_to z p t) ≡ None) → Clock p
     → Clock (after_target p t)
 clock_behind p t is fine clock =
-    let a = ap (λ (w : WorldState). w.time) (side_behind campaign.A p t) ∙ (said_told 0 None [] p.a (said_to campaign.A p t) (fine campaign.A)).time in
-    let b = ap (λ (w : WorldState). w.time) (side_behind campaign.B p t) ∙ (said_told 0 None [] p.b (said_to campaign.B p t) (fine campaign.B)).time in
+    let a = ap (λ (w : WorldState). w.time) (side_after campaign.A p t) ∙ (said_told 0 None [] p.a (said_to campaign.A p t) (fine campaign.A)).time in
+    let b = ap (λ (w : WorldState). w.time) (side_after campaign.B p t) ∙ (said_told 0 None [] p.b (said_to campaign.B p t) (fine campaign.B)).time in
     record {
       same = b ∙ ap (λ (n : ℕ). time_after n (Ok (said_to campaign.B p t))) clock.same ∙ both_time p.a.time p t is ∙ sym a;
       low = subst (λ (n : ℕ). n ≤ max_time) (sym a) (time_fits p.a (said_to campaign.A p t) (fine campaign.A) clock.low);

@@ -47,7 +47,8 @@ use Rattle.pair_run.specs.Crossing.{IsOtherAddress}
 use Rattle.isolation_laws.specs.CrossingFrames.{CrossesOnAir, FramesCrossInScripts}
 use Rattle.isolation_laws.proofs.Goes.{Goes, AllGo, all_go, pair_read, pair_first, pair_last}
 use Rattle.isolation_laws.proofs.Indexes.{said_late}
-use Rattle.isolation_laws.proofs.Taken.{MayReach, is_late, said_fine, side_behind, unrefused, after_is, Common, common_passed}
+use Rattle.pair_run.proofs.Unrefused.{MayReach, said_fine, unrefused, after_is}
+use Rattle.isolation_laws.proofs.Taken.{is_late, Common, common_passed}
 
 -- ---- what a line makes of the group of a plan
 

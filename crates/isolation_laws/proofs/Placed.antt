@@ -35,7 +35,7 @@ use Rattle.pair_run.specs.PairScript.{after_pair_line, pair_line_result, read_pa
 use Rattle.isolation_laws.specs.EachHeadline.{owner_of}
 use Rattle.isolation_laws.specs.PairTold.{pair_report_with, EachIsReported}
 use Rattle.isolation_laws.proofs.Goes.{pair_read}
-use Rattle.isolation_laws.proofs.Taken.{unrefused, after_is}
+use Rattle.pair_run.proofs.Unrefused.{unrefused, after_is}
 
 -- ---- the report, parted at the lines of one device
 

@@ -30,7 +30,7 @@ use Rattle.device_core.specs.Firmware.{version_step, upgrade_step, delete_image_
 use Rattle.device_core.specs.Fragments.{setup_step, status_step, delete_step, heard_step, fragment_step}
 use Rattle.device_core.specs.Step.{command_step, acts, step, after_commands, weights}
 use Rattle.device_core.specs.Deliver.{Outcome, asks_time, message_delivery, read_delivery, arrival, heard_delivery, time_asking, waking, delivery}
-use Rattle.campaign_laws.proofs.Calm.{is_calm}
+use Rattle.campaign_laws.proofs.Calm.{is_calm, all_far}
 
 -- no reboot will come
 abbrev pub Rests : DeviceState → Type 0
@@ -167,16 +167,6 @@ unfolding after_migration
 migration_rests d k = k
 
 -- ---- which payloads are
-
-far_calm : (x : Command) (port : ℕ) → (port ≡ 203 → ⊥) → IsListed (row x) port Down → is_calm x ≡ true
-far_calm (Sync (s.DevRebootTimeReq time)) port far listed = absurd (far (omega (arith, listed.port_is)))
-far_calm (Sync (s.DevRebootCountdownReq count)) port far listed = absurd (far (omega (arith, listed.port_is)))
-far_calm (Sync cmd) port far listed = refl
-far_calm (Cast cmd) port far listed = refl
-
-all_far : (xs : List Command) (port : ℕ) (bytes : List ℕ) (from end : ℕ) → (port ≡ 203 → ⊥) → SpellsTo xs port Down bytes from end → AllByRecursion (λ x. is_calm x ≡ true) xs
-all_far [] port bytes from end far all = tt
-all_far (x ∷ xs) port bytes from end far all = (far_calm x port far all.1.listed, all_far xs port bytes all.0 end far all.2)
 
 -- those of another port than that of firmware management
 pub far_soft : (down : Downlink) → (down.port ≡ 203 → ⊥) → IsSoft down

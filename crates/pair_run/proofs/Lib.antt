@@ -6,5 +6,6 @@ pub mod Parts
 pub mod HeardPair
 pub mod CountsUnread
 pub mod Frames
+pub mod Unrefused
 pub mod ReadAlone
 pub mod WorkedTwo

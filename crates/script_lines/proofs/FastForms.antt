@@ -12,21 +12,21 @@ use Rattle.script_lines.proofs.HeldWords.{two_words}
 
 -- ---- the words after a keyword
 
-behind_down : (rest : List ℕ) → words_of (codes "down " ++ rest) ≡ codes "down" ∷ words_of rest
+pub words_after_down : (rest : List ℕ) → words_of (codes "down " ++ rest) ≡ codes "down" ∷ words_of rest
 unfolding words_of
-behind_down rest = refl
+words_after_down rest = refl
 
-behind_air : (rest : List ℕ) → words_of (codes "air " ++ rest) ≡ codes "air" ∷ words_of rest
+pub words_after_air : (rest : List ℕ) → words_of (codes "air " ++ rest) ≡ codes "air" ∷ words_of rest
 unfolding words_of
-behind_air rest = refl
+words_after_air rest = refl
 
-behind_raw_air : (rest : List ℕ) → words_of (codes "rawair " ++ rest) ≡ codes "rawair" ∷ words_of rest
+words_after_raw_air : (rest : List ℕ) → words_of (codes "rawair " ++ rest) ≡ codes "rawair" ∷ words_of rest
 unfolding words_of
-behind_raw_air rest = refl
+words_after_raw_air rest = refl
 
-behind_raw : (rest : List ℕ) → words_of (codes "raw " ++ rest) ≡ codes "raw" ∷ words_of rest
+words_after_raw : (rest : List ℕ) → words_of (codes "raw " ++ rest) ≡ codes "raw" ∷ words_of rest
 unfolding words_of
-behind_raw rest = refl
+words_after_raw rest = refl
 
 -- ---- the form of only its keyword
 
@@ -71,7 +71,7 @@ pub down_line : (rest behind : List ℕ) (n d random : ℕ) → DecimalFirst res
 unfolding form_of word
 down_line rest behind n d random number device =
     by_words (codes "down " ++ rest) device.more
-    (behind_down rest ∙ ap (λ (ws : List (List ℕ)). codes "down" ∷ ws) (two_words number device)) device.word
+    (words_after_down rest ∙ ap (λ (ws : List (List ℕ)). codes "down" ∷ ws) (two_words number device)) device.word
   where
     by_words : (line : List ℕ) (more : List (List ℕ)) → words_of line ≡ codes "down" ∷ number.digits ∷ device.first ∷ more
         → random_of more ≡ Some random → form_of line ≡ Some (Down n d random)
@@ -84,7 +84,7 @@ pub air_line : (rest behind : List ℕ) (n d random : ℕ) → DecimalFirst rest
 unfolding form_of word
 air_line rest behind n d random number device =
     by_words (codes "air " ++ rest) device.more
-    (behind_air rest ∙ ap (λ (ws : List (List ℕ)). codes "air" ∷ ws) (two_words number device)) device.word
+    (words_after_air rest ∙ ap (λ (ws : List (List ℕ)). codes "air" ∷ ws) (two_words number device)) device.word
   where
     by_words : (line : List ℕ) (more : List (List ℕ)) → words_of line ≡ codes "air" ∷ number.digits ∷ device.first ∷ more
         → random_of more ≡ Some random → form_of line ≡ Some (Air n d random)
@@ -98,7 +98,7 @@ pub raw_line : (rest behind last : List ℕ) (d p : ℕ) (payload : List ℕ) (r
 unfolding form_of word
 raw_line rest behind last d p payload random device port hex =
     by_words (codes "raw " ++ rest) hex.more
-    (behind_raw rest ∙ ap (λ (ws : List (List ℕ)). codes "raw" ∷ ws)
+    (words_after_raw rest ∙ ap (λ (ws : List (List ℕ)). codes "raw" ∷ ws)
     (device.words ∙ ap (λ (ws : List (List ℕ)). device.digits ∷ ws) (two_words port hex))) hex.word
   where
     by_words : (line : List ℕ) (more : List (List ℕ)) → words_of line ≡ codes "raw" ∷ device.digits ∷ port.digits ∷ hex.first ∷ more
@@ -113,7 +113,7 @@ pub raw_air_line : (rest behind : List ℕ) (d : ℕ) (bytes : List ℕ) (random
 unfolding form_of word
 raw_air_line rest behind d bytes random device hex =
     by_words (codes "rawair " ++ rest) hex.more
-    (behind_raw_air rest ∙ ap (λ (ws : List (List ℕ)). codes "rawair" ∷ ws) (two_words device hex)) hex.word
+    (words_after_raw_air rest ∙ ap (λ (ws : List (List ℕ)). codes "rawair" ∷ ws) (two_words device hex)) hex.word
   where
     by_words : (line : List ℕ) (more : List (List ℕ)) → words_of line ≡ codes "rawair" ∷ device.digits ∷ hex.first ∷ more
         → random_of more ≡ Some random → form_of line ≡ Some (RawAir d bytes random)
