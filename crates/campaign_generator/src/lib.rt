@@ -3,8 +3,10 @@
 //! definitions draw from the seed, or says that memory ran out; a law says which form each line of that script spells. How a
 //! script is played, and what it does to a device, is left to the crates above.
 //!
-//!     let made = generate(alloc, 0)?;
-//!     // made.image is an image file, made.script the lines of a campaign that sends it
+//! From `fuota_run::running`:
+//!
+//!     let made = generate(alloc, seed)?;  // made.image is an image file, made.script the lines of a campaign that sends it
+//!     answer_of(alloc, seed_answer(alloc, seed, &made.image, &made.script))
 #![tactic(auto)]
 
 mod draws;

@@ -3,13 +3,26 @@
 //! that record: the plan, the image, a stage and a last status for each device, the next fragment and the group's next frame
 //! count. When anything is sent, and whether it arrives, is left to the caller.
 //!
-//!     let mut server = Server::new(alloc, plan, image)?;       // `image` is an image file
-//!     let request = server.ask(1);                             // what device 1 is to be sent next
-//!     let fragment = server.next_fragment()?;
-//!     let frame = server.frame(&fragment);                     // of a plan with a group: the bytes on air
-//!     let answer = server.uplink(1, port, payload, t)?;        // moves its stage
-//!     let stage = server.ledger(1);
-//!     let status = server.last_status(1);                      // how many pieces it missed when it last answered
+//! From `device_tests::server`:
+//!
+//!     match Server::new(alloc, plan, &IMAGE) {  // `IMAGE` is an image file
+//!         Ok(server) => OneDevice { server },
+//!         Err(_) => panic!(rt; "no server"),
+//!     }
+//!
+//!     match self.server.ask(1) {  // what device 1 is to be sent next
+//!         Some(down) => assert!(rt; is_down(&down, To::Unicast, port, bytes)),
+//!         None => assert!(rt; bytes.is_empty()),
+//!     }
+//!
+//!     assert!(rt; server.has_frame(down));
+//!     let frame = server.frame(down);  // of a plan with a group: the bytes on air
+//!
+//! An uplink, from `campaign_world::world::sends`:
+//!
+//!     let uplink = &made.uplink;
+//!     let heard = server.uplink(device, uplink.port(), uplink.bytes(), t);  // moves the stage of the device
+//!     keep(sent, Some(device), &answered(heard));
 #![tactic(auto)]
 
 mod answers;

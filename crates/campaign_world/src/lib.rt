@@ -4,12 +4,24 @@
 //! can be played next to another one: it shows its state to the other, and skips lines that are only for the other. Files and
 //! words of a command line are left to the program above.
 //!
-//!     let mut world = World::new(alloc, image)?;
-//!     for line in lines {
-//!         world.line(line)?;                                   // the first refused line, and why
+//! From `run_tests::worlds`:
+//!
+//!     match World::new(alloc, &IMAGE) {
+//!         Ok(world) => world,
+//!         Err(_) => panic!(rt; "no memory"),
 //!     }
-//!     let report = world.report(alloc)?;
-//!     let file = world.recovered(1);
+//!
+//!     for line in lines {
+//!         assert!(rt; world.line(line.as_bytes()) == Ok(()));  // or the first refused line, and why
+//!     }
+//!
+//!     match world.report(alloc) {
+//!         Ok(text) => {
+//!             assert!(rt; text.as_slice() == wanted.as_bytes());
+//!             drop(text);
+//!         }
+//!         Err(_) => panic!(rt; "no report"),
+//!     }
 #![tactic(auto)]
 
 mod causes;

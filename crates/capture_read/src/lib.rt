@@ -2,10 +2,12 @@
 //! Any bytes are an entry exactly where the definition says so, over the value that `serde_json` reads; a refusal names the first
 //! cause that holds. Lines, their numbers, and what happens to an entry are left to the crates above.
 //!
-//!     match entry(alloc, br#"{"port":201,"dir":"down","hex":"0801005a"}"#) {
-//!         Ok(entry) => hear(entry.port, entry.dir, &entry.payload),
-//!         Err(EntryError::Refused(fault)) => refuse(fault),  // the first that holds
-//!         Err(EntryError::Memory) => give_up(),
+//! From `payload_replay::capturing`:
+//!
+//!     match entry_with(alloc, scratch, line) {
+//!         Ok(item) => Ok(item),
+//!         Err(EntryError::Memory) => Err(LineError::Memory),
+//!         Err(EntryError::Refused(fault)) => Err(refused_behind(lines, cause_of(fault))),  // the first that holds
 //!     }
 //!
 //! For line after line, `entry_with` borrows one `Scratch` again and again.

@@ -3,13 +3,22 @@
 //! other place is refused with its cause. A valid command is written in its canonical spelling, whole or not at all. Payloads of
 //! several commands, the other packages and what a command does are left to the crates above.
 //!
-//!     match read_one(FRAGMENT_PORT, Direction::Down, bytes, 0) {
-//!         Ok((Cmd::FragSessionSetupReq { nb_frag, frag_size, .. }, next)) => ..,
-//!         Ok((command, next)) => ..,            // the next command begins at `next`
-//!         Err(refusal) => ..,                   // at which byte, and why
+//! From `base_tests::cast`:
+//!
+//!     match read_one(port, dir, bytes, 0) {
+//!         Ok((found, next)) => {
+//!             assert!(rt; found == *cmd);
+//!             assert!(rt; next as usize == bytes.len());  // the next command begins at `next`
+//!         }
+//!         Err(_) => assert!(rt; false),                   // at which byte, and why
 //!     }
-//!     if let Some(fragment) = fragment_at(bytes, 0) {
-//!         // fragment.index, fragment.n, and fragment.bytes, which are not copied
+//!
+//! From `sample_receiver`:
+//!
+//!     if let Some(fragment) = fragment_at(payload, 0) {
+//!         if fragment.index == 0 {
+//!             receiver.fragment(Via::Unicast, fragment.n, fragment.bytes, mark);  // the bytes are not copied
+//!         }
 //!     }
 #![tactic(auto)]
 

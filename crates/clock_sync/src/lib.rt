@@ -2,11 +2,20 @@
 //! A device's time is true time plus its offset, and the correction is the one signed number that sets it right. Commands as
 //! bytes are left to `sync_wire`; when a device asks is left to the crates above.
 //!
-//!     let mut clock = DeviceClock::new(0);
-//!     let request = clock.request(t, true);                    // AppTimeReq; t in ms
-//!     clock.take_answer(correction, token);                    // AppTimeAns
-//!     // the server
-//!     if answer_needed(required, correction(seconds, device_time)) { .. }
+//! The device's end, from `base_tests::clock`:
+//!
+//!     assert!(rt; clock.request(10_000, true) == request);  // AppTimeReq, at 10,000 ms
+//!     assert!(rt; clock.millis(10_250) == 15_250);
+//!     assert!(rt; clock.take_answer(-5, 3) == Taken::OtherToken);
+//!     assert!(rt; clock.take_answer(-5, 0) == Taken::Set);  // AppTimeAns
+//!
+//! The server's end, from `campaign_server::time`:
+//!
+//!     let correction = correction(seconds, time);
+//!     if !answer_needed(required, correction) {
+//!         return None;
+//!     }
+//!     let command = Command::Sync(Cmd::AppTimeAns { correction, token });
 #![tactic(auto)]
 
 mod clock;

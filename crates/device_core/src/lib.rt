@@ -6,14 +6,41 @@
 //! device's sessions are only in memory, or held in the flash; then they outlast a stop, and `power` opens them again. All else
 //! that it knows can be saved as bytes (`specs/Saving.antt`), and a device is restored from these and its files.
 //!
-//!     let mut device = Device::reserve(alloc, config, flash)?; // all memory
-//!     device.power()?;                                         // where its sessions are held: they are up
-//!     device.deliver(t, &downlink, random_word, mark);         // deaf, refused, outbox full, done, flash fault, or down
-//!     device.radio(t, &bytes, random_word, mark);              // a multicast frame: foreign, or heard
-//!     while let Some(uplink) = device.take_uplink() { .. }     // uplink.due, uplink.port, uplink.payload
-//!     let file = device.session(0).map(|view| view.file);
-//!     let saved = device.save();                               // 492 bytes, to be kept with running and next_file
-//!     let device = Device::restore(alloc, config, flash, &saved, running, next)?; // memory, bad config, or corrupt
+//! From `device_tests::saving`:
+//!
+//!     let mut device = match Device::reserve(rt.alloc(), CONFIG, flash(&rt, rt.alloc())) {
+//!         Ok(device) => device,
+//!         Err(_) => panic!(&rt; "no device"),
+//!     };
+//!     assert!(rt; device.is_held());
+//!     assert!(rt; device.power().is_ok());  // its sessions are up
+//!
+//!     let saved = first.save();                           // 492 bytes
+//!     let running = copied(rt, alloc, first.slots().running().1);
+//!     let next = copied(rt, alloc, first.next_file());
+//!     let flash = first.close();
+//!     powered(rt, alloc, flash, &saved, &running, &next)  // `Device::restore`, and power
+//!
+//! A payload and a frame, from `file_device::calls`:
+//!
+//!     let down = Downlink {
+//!         to: To::Unicast,
+//!         port,
+//!         payload: Payload::from_slice(bytes.as_slice()),
+//!     };
+//!     Some(word_of(device.deliver(time, &down, word, 0)))  // done, deaf, refused, outbox full, flash fault, or down
+//!
+//!     match device.radio(time, bytes.as_slice(), word, 0) {  // a multicast frame
+//!         Aired::Foreign(_) => "foreign",
+//!         Aired::Heard(delivered) => word_of(delivered),
+//!     }
+//!
+//! Its uplinks, from `file_device`:
+//!
+//!     if let Some(uplink) = device.take_uplink() {
+//!         let text = hex::encode(rt.alloc(), uplink.payload.as_slice())?;
+//!         println!(rt; "{} {} {}", uplink.due, uplink.port, text.as_str())?;
+//!     }
 #![tactic(auto)]
 
 mod arrival;

@@ -2,9 +2,15 @@
 //! call that failed is counted. That a file returns what was written into it, and keeps what was synced, is up to the system, and
 //! no clause says it.
 //!
-//!     let flash = FileFlash::open(&rt, "device.flash", 4 * span)?;
-//!     let mut device = Device::reserve(rt.alloc(), config, flash)?;
-//!     device.power()?;                                         // what the file holds
+//! From `file_device`:
+//!
+//!     let flash = FileFlash::open(rt, path, 4 * SPAN)?;
+//!     let Some(mut device) = restored(rt, config, flash, state)? else {
+//!         return Err(wrong());
+//!     };
+//!     if !device.is_held() || device.power().is_err() {  // with what the file holds
+//!         return Err(wrong());
+//!     }
 #![tactic(auto)]
 
 ghost use Rattle.std.specs.Prelude.{◌≡◌, ◌+◌, ◌*◌, ◌^◌, ◌<◌, ◌≤◌, IfOk};

@@ -3,15 +3,17 @@
 //! range again gives a session that stands for what was acknowledged, or for that and the fragment of the stopped call. Where
 //! sessions are in a flash, and what happens to a whole file, is left to the device above.
 //!
-//!     let idle = Idle::new(Solver::reserve(alloc, 256 * 48)?); // all memory; `flash` is a `Flash`
-//!     let held = match Held::open(&mut flash, 0, span, idle, limits) {
-//!         Ok(held) => held,                                    // with the session that is stored there, or with none
-//!         Err((idle, fault)) => return Err(fault),             // the flash failed, or a place is foreign
-//!     };
-//!     match held.hear(&mut flash, Via::Unicast, n, part, mark) {
-//!         Ok((held, heard)) => held.status(Via::Unicast, true), // what was heard outlasts a stop
-//!         Err(idle) => None,                                   // the flash failed: open again
+//! From `session_tests::flash`:
+//!
+//!     match Held::open(flash, base, SPAN, idle, LIMITS) {
+//!         Ok(held) => held,                          // with the session that is stored there, or with none
+//!         Err(_) => panic!(rt; "it does not open"),  // the flash failed, or a place is foreign
 //!     }
+//!
+//!     Call::Hear(n, byte) => match held.hear(flash, Via::Unicast, n, &[byte], 7) {
+//!         Ok((held, _)) => Ok(held),  // what was heard outlasts a stop
+//!         Err(idle) => Err(idle),     // the flash failed: open again
+//!     },
 #![tactic(auto)]
 
 mod beginning;

@@ -3,10 +3,16 @@
 //! zeros: the piece itself, or the XOR of the pieces in the coded fragment's line. Which fragments are sent, when, and to whom is
 //! left to the crates above.
 //!
-//!     let encoder = Encoder::new(alloc, file, 48)?;            // BadSize, or Memory
+//! From `sample_sender`:
+//!
 //!     let mut part = ArrayVec::new();
-//!     for n in 1..=encoder.nb_frag() + 16 {                    // all pieces, and 16 coded fragments
-//!         encoder.fragment(n, &mut part)?;
+//!     match encoder.fragment(n, &mut part) {
+//!         Ok(()) => {
+//!             let bytes = FragmentBytes::from_slice(part.as_slice());
+//!             let fragment = Command::Cast(Cmd::DataFragment { index: 0, n, bytes });
+//!             Some(spelled(FRAGMENT_PORT, Direction::Down, &fragment))
+//!         }
+//!         Err(Beyond) => None,
 //!     }
 #![tactic(auto)]
 

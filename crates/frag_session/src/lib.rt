@@ -2,12 +2,22 @@
 //! make. A slot stands for the list of all fragments heard since its setup. It keeps no list, but its contracts say each answer
 //! over it. Where payloads come from, and what happens to a whole file, is left to the device above.
 //!
-//!     let solver = Solver::reserve(alloc, 256 * 48)?;          // all memory
-//!     let mut slot: Slot<64, 768> = Slot::new(Idle::new(solver));
-//!     let bits = slot.setup(req, limits);                      // FragSessionSetupAns
-//!     slot.fragment(Via::Unicast, n, part, mark);              // fed, or dropped and why
-//!     let answer = slot.status(Via::Unicast, true);            // FragSessionStatusAns
-//!     let file = slot.view().map(|view| view.file);            // empty unless it is complete
+//! From `sample_receiver`:
+//!
+//!     let solver = Solver::reserve_for(alloc, 256 * 48, 256)?;  // all memory
+//!     Ok(Slot::new(Idle::new(solver)))
+//!
+//!     if let Some(fragment) = fragment_at(payload, 0) {
+//!         if fragment.index == 0 {
+//!             receiver.fragment(Via::Unicast, fragment.n, fragment.bytes, mark);  // fed, or dropped and why
+//!         }
+//!     }
+//!
+//!     let view = receiver.view()?;
+//!     match view.verdict {
+//!         Verdict::Complete(_) => Some(view.file),
+//!         _ => None,
+//!     }
 #![tactic(auto)]
 
 mod answers;

@@ -3,8 +3,11 @@
 //! and the text that its words and files define, and each other status says what failed. Campaigns are left to `campaign_world`
 //! and `pair_run`, payloads to `payload_replay`; the words and the system's runtime come from the program above.
 //!
-//!     let status = run(alloc, &words, &mut files, &mut out);   // files: StdFiles, MemFiles, SureFiles; out: StdSink, ..
-//!     let code = status.code();
+//! From `fuota`:
+//!
+//!     let mut files = StdFiles::new(rt);
+//!     let mut out = StdSink::new(rt);
+//!     run(rt.alloc(), words, &mut files, &mut out)
 #![tactic(auto)]
 
 mod answers;

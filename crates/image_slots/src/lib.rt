@@ -4,13 +4,17 @@
 //! hardware version: corrupt, incompatible, or valid with the firmware's version. Slots take their memory once, and each call on
 //! them is a function of what they hold. Who made a file, and when a device starts it, is left to the crates above.
 //!
-//!     match ImageView::read(file, hardware, 2) {
-//!         ImageState::Valid(firmware) => ..,
-//!         ImageState::Incompatible | ImageState::Corrupt | ImageState::None => ..,
-//!     }
-//!     let mut slots = Slots::reserve(alloc, 262_382, hardware, 2)?;
-//!     slots.offer(file);                                       // becomes next
-//!     slots.swap();                                            // a valid next runs
+//! From `session_tests::images`:
+//!
+//!     assert!(rt; ImageView::read(file, hw, formats) == state);
+//!     assert!(rt; is_image(file) == (state != ImageState::Corrupt));
+//!
+//!     slots.offer(&IMAGE);  // becomes next
+//!     has_next(&rt, &slots, ImageState::Valid(2));
+//!     deletes(&rt, &mut slots, 3, 2);
+//!     slots.swap();         // a valid next runs
+//!     runs(&rt, &slots, &IMAGE);
+//!     has_next(&rt, &slots, ImageState::None);
 #![tactic(auto)]
 
 mod image;

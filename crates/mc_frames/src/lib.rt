@@ -2,11 +2,18 @@
 //! are opened exactly where they are such a frame for the address, with a count that is due; otherwise the answer is the first
 //! fault. It is not promised that nobody else finds a valid MIC. Which group is heard, and what its keys are, is left to the
 //! crates above.
-//!     let keys = Keys { app_s, net_s };  // McAppSKey and McNetSKey of the group
-//!     let frame = frame(&keys, addr, count, 201, &payload);
-//!     match open(&keys, addr, min, max, frame.as_slice()) {
-//!         Ok(opened) => hear(opened.count, opened.port, &opened.payload),
-//!         Err(fault) => skip(fault),  // the first that holds: `Short`, .., `Count`, `Mic`
+//!
+//! From `base_tests::frames`:
+//!
+//!     let long = frame(&KEYS, ADDR, 0x0102_0304, 200, &long_payload());
+//!     assert!(rt; long.as_slice() == LONG_FRAME.as_slice());
+//!
+//!     match open(&KEYS, ADDR, min, max, bytes) {
+//!         Ok(opened) => {
+//!             assert!(rt; opened.count == count && opened.port == port);
+//!             assert!(rt; opened.payload.as_slice() == payload);
+//!         }
+//!         Err(_) => panic!(rt; "it is not opened"),  // the first fault that holds: `Short`, .., `Count`, `Mic`
 //!     }
 #![tactic(auto)]
 

@@ -2,9 +2,21 @@
 //! Each key is the AES-128 encryption that the standard defines over the key before it, and a key that was wrapped for a device
 //! is the one that the device unwraps. Where keys are kept, and what is encrypted with them, is left to the crates above.
 //!
-//!     let kek = kek(&root_1_0(&gen_app_key));  // of LoRaWAN 1.1: root_1_1(&app_key)
-//!     let mc_key = unwrap_key(&kek, &wrapped);  // the server: wrap_key(&kek, &mc_key)
-//!     let session_key = app_s_key(&mc_key, addr);
+//! The server's end, from `campaign_server::asking`:
+//!
+//!     let root = mc_keys::root(device.root, &device.key);  // McRootKey of LoRaWAN 1.0 or 1.1
+//!     let block = wrap_key(&kek(&root), key);              // McKey_encrypted
+//!
+//! The device's end, from `mc_group::table`:
+//!
+//!     let key = unwrap_key(&kek(&mc_keys::root(root, gen_app_key)), wrapped);
+//!
+//! The session keys, from `campaign_server::framing`:
+//!
+//!     Keys {
+//!         app_s: app_s_key(&group.key, group.addr),
+//!         net_s: net_s_key(&group.key, group.addr),
+//!     }
 #![tactic(auto)]
 
 mod keys;

@@ -5,11 +5,26 @@
 //! and why reading stops. A valid command is written in its canonical spelling, and read again. What a command does is left to
 //! the device and the server above.
 //!
-//!     let mut message = Message::read(port, Direction::Down, payload)?;   // or where and why reading stops
-//!     while let Some(command) = message.next() {
-//!         show(&command, &mut text)?;           // "AppTimeAns correction=5 token=3"
+//! From `sample_decoder`:
+//!
+//!     match Message::read(port, direction, payload) {
+//!         Ok(message) => match lines(alloc, message) {
+//!             Ok(text) => Ok(text),
+//!             Err(AllocError) => Err(DecodeError::Memory),
+//!         },
+//!         Err(refusal) => Err(DecodeError::Refused(refusal)),  // where and why reading stops
 //!     }
-//!     let payload = spelled(FRAGMENT_PORT, Direction::Down, &command);
+//!
+//!     while let Some(command) = message.next() {
+//!         show(&command, &mut text)?;  // "AppTimeAns correction=5 token=3"
+//!         text.extend_from_slice(b"\n")?;
+//!     }
+//!
+//! The way back, from `base_tests::grammar`:
+//!
+//!     let delete = Command::Cast(cast_wire::Cmd::FragSessionDeleteReq { index: 2 });
+//!     let payload = spelled(201, Direction::Down, &delete);
+//!     assert!(rt; payload.as_slice() == [0x03, 0x02].as_slice());
 #![tactic(auto)]
 
 mod checking;

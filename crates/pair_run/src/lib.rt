@@ -4,11 +4,13 @@
 //! Which campaign a line is for, and the report of both, are this project's profile. What a line does to one campaign is left to
 //! `campaign_world`; files and words of a command line are left to the program above.
 //!
-//!     let mut pair = Pair::new(alloc, image_a, image_b)?;
-//!     for line in lines {
-//!         pair.line(line)?;                                    // the first refused line, and why
-//!     }
-//!     let report = pair.report(alloc)?;
+//! From `run_tests::pairs`:
+//!
+//!     let mut pair = pair(&rt, rt.alloc());                     // `Pair::new` of two images
+//!     assert!(rt; pair.line(b"fuota 2").is_ok());
+//!     assert!(rt; pair.line(b"image a 52 0 0").is_ok());
+//!     assert!(rt; pair.line(b"image b 56 0 0") == Err(FAULT));  // the first refused line, and why
+//!     reports_none(&rt, rt.alloc(), &pair);                     // `pair.report` answers the same
 #![tactic(auto)]
 
 mod causes;

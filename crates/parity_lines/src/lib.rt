@@ -3,8 +3,11 @@
 //! bits. It draws as many states of the register as the definition, at most 25 for each column that the line needs. What a line
 //! is for, the XOR of the pieces at its columns, is left to the crates above.
 //!
-//!     let mut words = [0; 64];                                 // 64 columns a word
-//!     line_uncounted(1, nb_frag, &mut words);                  // coded fragment 1, which is fragment nb_frag + 1
+//! From `session_tests::lines`:
+//!
+//!     let mut out = [0; 64];              // 64 columns a word
+//!     line_uncounted(1, 4096, &mut out);  // coded fragment 1 of 4,096 pieces, which is fragment 4,097
+//!     assert!(rt; out[3574 / 64] >> (3574 % 64) & 1 == 1);
 #![tactic(auto)]
 
 mod lines;

@@ -4,10 +4,17 @@
 //! first refused line with its first cause. Words of a command line and files are left to the program above, and the script of a
 //! campaign to `campaign_world`.
 //!
-//!     let mut decoding = Decoding::new(alloc, 201, Direction::Down);
-//!     decoding.line(b"0801001122");                            // `HearsLine` has the call
-//!     let text = decoding.text()?;
-//!     // and `Replaying::new(alloc)`, whose first line is `replay 1 ROWS`, or `Capturing`, with `capture 1 ROWS`
+//! From `fuota_run::payload_answers`, which does the same with `Replaying` and `Capturing`:
+//!
+//!     FileForm::Decode { port, dir } => {
+//!         let heard = Decoding::new(alloc, port, dir);
+//!         hear_decode(alloc, files, heard, name)
+//!     }
+//!
+//!     match hear_source(files, name, SCRIPT_LIMIT, &mut heard) {  // line by line
+//!         Ok(()) => text_answer(alloc, heard.text()),
+//!         Err(error) => unread_answer(alloc, error),
+//!     }
 #![tactic(auto)]
 
 mod capturing;

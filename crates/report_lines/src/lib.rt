@@ -3,10 +3,20 @@
 //! returns exactly the text of its definition, or says that memory is missing. What a campaign is, and what captured payloads do
 //! to a device, is left to the crates above.
 //!
-//!     let stands = device_line(alloc, "3", stage, Standing::of(&device))?; // device 3 updated clock 0 token 0 ..
-//!     let counts = counts_line(alloc, device.counts())?;              // counts deaf 0 refused 0 full 0 dropped 0
-//!     let sessions = session_lines(alloc, &device, Tail::Same(&image))?;
-//!     let said = fault_line(alloc, fault)?;                           // line 5 unsent
+//! From `campaign_world::report`:
+//!
+//!     let sessions = session_lines(alloc, device, Tail::Same(image))?;
+//!
+//!     let stand = device_line(alloc, name, stage, stands)?;  // device 3 updated clock 0 token 0 ..
+//!     let counts = counts_line(alloc, counts)?;              // counts deaf 0 refused 0 full 0 dropped 0
+//!     three_texts(alloc, stand.as_str(), counts.as_str(), sessions)
+//!
+//! A refused line, from `fuota_run::answers`:
+//!
+//!     Ok(Answer {
+//!         status: Status::ScriptRefused,
+//!         text: fault_line(alloc, fault)?.into_bytes(),  // line 5 unsent
+//!     })
 #![tactic(auto)]
 
 mod devices;

@@ -3,11 +3,16 @@
 //! rows there are afterwards; `pick` and `sum_pieces` say what they take out of a line and add to a part. Which rows are worth
 //! keeping, and what they mean, is left to the elimination above.
 //!
-//!     let mut arena: RowArena<64, 768> = RowArena::new();
-//!     arena.shape(16, 256, 48)?;                // 16 rows of 256 columns and 48 bytes, all zero
-//!     arena.set_row(0, &line, part);
-//!     arena.xor_row(0, 1);                      // row 1 is added to row 0
-//!     let lead = arena.first_set(0);
+//! From `session_tests::arena`:
+//!
+//!     let mut arena = RowArena::<6, 9>::new();
+//!     assert!(rt; arena.shape(3, 65, 3) == Ok(()));  // 3 rows of 65 columns and 3 bytes, all zero
+//!     arena.set_row(0, &[6, 1], &[1, 2, 3]);
+//!     arena.set_row(1, &[6, 0], &[3, 2, 255]);
+//!     arena.set_row(2, &[1, 0], &[9, 9, 9]);
+//!     assert!(rt; arena.first_set(0) == Some(1));
+//!     arena.xor_row(0, 1);                           // row 1 is added to row 0
+//!     assert!(rt; arena.words(0) == [0, 1].as_slice() && arena.bytes(0) == [2, 0, 252].as_slice());
 #![tactic(auto)]
 
 mod arena;

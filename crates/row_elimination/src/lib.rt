@@ -3,13 +3,23 @@
 //! adds to them. Its contract says after each fragment which blocks fit, and that the solver is complete exactly when only one
 //! block fits. Which fragments are heard, and what happens to a whole file, is left to the sessions above.
 //!
-//!     let mut solver: Solver<64, 768> = Solver::reserve(alloc, 256 * 48)?;   // all memory
-//!     solver.begin(nb_frag, frag_size, padding, 16)?;
-//!     match solver.feed(n, part) {
-//!         Fed::Receiving => ..,                 // solver.missing() pieces are still to be gained
-//!         Fed::Complete => ..,                  // solver.block() is the file and its padding
-//!         Fed::NoRows | Fed::Conflict => ..,
+//! From `session_tests::solver`:
+//!
+//!     match Solver::reserve(alloc, 64) {  // all memory
+//!         Ok(solver) => Receiver::begin(rt, solver, pieces, 1, rows),
+//!         Err(_) => panic!(rt; "no memory"),
 //!     }
+//!
+//!     if solver.begin(nb_frag, frag_size, 0, rows).is_err() {
+//!         panic!(rt; "no room");
+//!     }
+//!
+//!     let fed = self.solver.feed(n, part);
+//!     self.stage = match fed {
+//!         Fed::Receiving => Stage::Receiving,  // `missing` pieces are still to be gained
+//!         Fed::Complete => Stage::Complete,    // `block` is the file and its padding
+//!         Fed::NoRows | Fed::Conflict => Stage::Ended,
+//!     };
 #![tactic(auto)]
 
 mod additions;

@@ -6,8 +6,18 @@
 //! the copy counts. That a session outlasts a stop at any moment is tested, over a part that is
 //! stopped at each.
 //!
-//!     let mut flash = NorFlash::over(nor, SPAN, 1)?; // `nor` is the maker's; None if too small
-//!     let receiver = start(&mut flash, arena)?;      // a session, as over any other `Flash`
+//! From `nor_tests::bench`:
+//!
+//!     match NorFlash::over(part, SPAN, 2) {  // `part` is the maker's
+//!         Some(flash) => flash,
+//!         None => panic!(rt; "no range"),    // it is too small
+//!     }
+//!
+//!     let mut flash = flash;
+//!     match start(&mut flash, empty) {  // a session, as over any other `Flash`
+//!         Ok(receiver) => Stand { flash, receiver },
+//!         Err(_) => panic!(rt; "the flash is not opened"),
+//!     }
 #![tactic(auto)]
 
 mod area;

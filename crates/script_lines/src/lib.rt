@@ -3,9 +3,18 @@
 //! the table of ranges; `pair_form` does the same for the script of two campaigns. What a form does to a campaign, and when it
 //! may come, is left to the world above.
 //!
-//!     match form(b"down 5 1") {
-//!         Some(read) if in_range(&read) => ..,                 // Form::Down { .. }
-//!         _ => ..,
+//! From `file_device`:
+//!
+//!     let read = form(line)?;
+//!     if !in_range(&read) {
+//!         return None;
+//!     }
+//!     match read {
+//!         Form::At { time: now } => {
+//!             *time = now;
+//!             Some("done")
+//!         }
+//!         other => call(device, *time, &other),
 //!     }
 #![tactic(auto)]
 

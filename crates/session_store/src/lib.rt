@@ -2,12 +2,18 @@
 //! power comes. Whatever call is stopped, opening them again gives the sessions as they were or as they are after the call; for a
 //! setup and a delete it may also give none at that index. What happens to a whole file is left to the device above.
 //!
-//!     let mut store = SessionStore::reserve(alloc, flash, layout, true)?; // all memory; `flash` is a `Flash`
-//!     store.power()?;                                          // the sessions that are stored there, or none
-//!     match store.fragment(0, Via::Unicast, n, part, mark) {
-//!         Ok(heard) => ..,                                     // what was heard outlasts a stop
-//!         Err(FlashFault) => store.power()?,                   // the flash failed: they are down
+//! From `session_tests::store`:
+//!
+//!     match SessionStore::reserve(alloc, flash, LAYOUT, true) {  // all memory; `flash` is a `Flash`
+//!         Ok(store) => store,
+//!         Err(_) => panic!(rt; "no memory"),
 //!     }
+//!
+//!     assert!(rt; store.is_held());
+//!     store.power().is_ok()  // the sessions that are stored there, or none
+//!
+//!     assert!(rt; index < 4 && !store.is_down());
+//!     store.fragment(index, Via::Unicast, n, &[byte], 7).is_ok()  // what was heard outlasts a stop
 #![tactic(auto)]
 
 mod held_slots;

@@ -3,9 +3,20 @@
 //! refused with its cause. A valid command is written in its canonical spelling, whole or not at all. Payloads of several
 //! commands, the other packages and what a command does are left to the crates above.
 //!
-//!     let request = Cmd::AppTimeReq { time, required: true, token: 3 };
-//!     let mut payload = Payload::new();
-//!     write_one(&request, &mut payload)?;       // whole or not at all
+//! From `base_tests::sync`:
+//!
+//!     let mut out = Payload::new();
+//!     assert!(rt; valid(cmd));
+//!     assert!(rt; write_one(cmd, &mut out).is_ok());  // whole or not at all
+//!     assert!(rt; out.as_slice() == bytes);
+//!
+//!     match read_one(port, dir, bytes, 0) {
+//!         Ok((found, next)) => {
+//!             assert!(rt; found == *cmd);
+//!             assert!(rt; next as usize == bytes.len());  // the next command begins at `next`
+//!         }
+//!         Err(_) => assert!(rt; false),                   // at which byte, and why
+//!     }
 #![tactic(auto)]
 
 mod cmd;

@@ -3,10 +3,17 @@
 //! and a put without room changes nothing. Which commands there are is left to the crates above, which write their tables as rows
 //! of `specs/Rows.antt`.
 //!
-//!     let mut payload = Payload::new();
-//!     put_u8(&mut payload, 0x01)?;              // `Full` where 242 bytes are there
-//!     put_u32(&mut payload, 0xdead_beef)?;      // low byte first
-//!     let number = u32_at(payload.as_slice(), 1);
+//! From `base_tests::numbers`:
+//!
+//!     let mut out = Payload::new();
+//!     assert!(rt; put_u8(&mut out, 0x01).is_ok());     // `Full` where 242 bytes are there
+//!     assert!(rt; put_u16(&mut out, 0x0302).is_ok());  // low byte first
+//!     assert!(rt; put_u24(&mut out, 0x06_0504).is_ok());
+//!     assert!(rt; put_u32(&mut out, 0x0a09_0807).is_ok());
+//!     assert!(rt; out.as_slice() == PUT.as_slice());
+//!
+//!     assert!(rt; u8_at(&PUT, 0) == 0x01 && u16_at(&PUT, 1) == 0x0302);
+//!     assert!(rt; u24_at(&PUT, 3) == 0x06_0504 && u32_at(&PUT, 6) == 0x0a09_0807);
 #![tactic(auto)]
 
 mod laws;
