@@ -30,21 +30,21 @@ use Rattle.campaign_world.specs.Said.{Said, Own, Elsewhere, Reached}
 use Rattle.campaign_world.specs.Causes.{is_device, is_to_group, said_cause}
 use Rattle.campaign_world.specs.Making.{after_form, after_said}
 use Rattle.campaign_laws.proofs.HeadlineForms.{all_numbered}
-use Rattle.campaign_laws.proofs.Keyed.{FitsGroup, IsDueOf, IsKept, IsKeyed}
+use Rattle.campaign_laws.proofs.Keyed.{FitsGroup, IsDueOf, IsKept}
 use Rattle.campaign_laws.proofs.OwnGroups.{IsOwn, HasOwn}
 use Rattle.campaign_laws.proofs.PlanGroups.{fragment_plan, status_plan, given_settled, event_settled, sends_settled, up_settled}
 use Rattle.pair_run.specs.declared.owners.Owner.{Owner}
 use Rattle.pair_run.specs.declared.targets.Way.{Way}
 use Rattle.pair_run.specs.declared.targets.Way.TheVariants as way
-use Rattle.pair_run.specs.Targets.{Target, Header, At, End, One, Across, Nobody, to_owner, carried_form, carried_target, common_target, named_target, target_for, count_of, target_of}
+use Rattle.pair_run.specs.Targets.{Target, Header, At, End, One, Across, Nobody, to_owner, carried_form, carried_target, common_target, named_target, target_for, target_of}
 use Rattle.pair_run.specs.Pair.{PairState, first_pair, side, other, is_same}
-use Rattle.pair_run.specs.PairCauses.{is_unplanned, is_planned, pair_may_come, is_other_group, is_apart, may_cross, crossing_cause, common_cause, target_cause, target_in, pair_cause_of}
+use Rattle.pair_run.specs.PairCauses.{is_unplanned, pair_may_come, is_other_group, is_apart, may_cross, common_cause, target_cause, target_in, pair_cause_of}
 use Rattle.pair_run.specs.PairMaking.{said_to, reached_by, after_target}
 use Rattle.pair_run.specs.PairScript.{after_pair_line, read_pair_lines}
 use Rattle.pair_run.proofs.Accepts.{neither, cut_cause, may_cross_over}
 use Rattle.pair_run.proofs.Frames.{frames_cross}
 use Rattle.pair_run.specs.Crossing.{IsOtherAddress}
-use Rattle.isolation_laws.specs.CrossingFrames.{CrossesOnAir, FramesCrossInScripts}
+use Rattle.isolation_laws.specs.CrossingFrames.{FramesCrossInScripts}
 use Rattle.isolation_laws.proofs.Goes.{Goes, AllGo, all_go, pair_read, pair_first, pair_last}
 use Rattle.isolation_laws.proofs.Indexes.{said_late}
 use Rattle.pair_run.proofs.Unrefused.{MayReach, said_fine, unrefused, after_is}

@@ -1,6 +1,5 @@
 -- Each device of either campaign is in the report of both, in the place of its ID.
-use Rattle.std.proofs.Common.{◌≡◌, ◌⊎◌, inl, inr, ℕ, zero, suc, ◌+◌, ◌-◌, ◌≤◌, ◌<◌, ◌==◌, nat_le, Bool, true, false, cond, List, [], ◌∷◌, ◌++◌, length, take, drop, slice_get, codes, Option, Some, None, Result, Ok, Err, refl, sym, ap, ◌∙◌, subst, append_assoc, arith}
-use Rattle.std.specs.Fmt.{decimal}
+use Rattle.std.proofs.Common.{◌≡◌, ◌⊎◌, inl, inr, ℕ, zero, suc, ◌+◌, ◌-◌, ◌≤◌, ◌==◌, nat_le, Bool, true, false, cond, List, [], ◌∷◌, ◌++◌, length, take, drop, slice_get, codes, Option, Some, None, Ok, refl, sym, ap, ◌∙◌, subst, append_assoc, arith}
 use Rattle.std.proofs.lemmas.List.{length_push}
 use Rattle.std.proofs.lemmas.Option.{slice_get_within}
 use Rattle.std.proofs.lemmas.Bool.Decides.{nat_tests}
@@ -12,14 +11,13 @@ use Rattle.script_lines.specs.declared.forms.Campaign.TheVariants as campaign
 use Rattle.script_lines.specs.declared.forms.Form.{Form}
 use Rattle.script_lines.specs.declared.forms.Form.TheVariants as form
 use Rattle.script_lines.specs.declared.forms.PairForm.{PairForm}
-use Rattle.script_lines.specs.PairForms.{pair_form_of}
 use Rattle.report_lines.specs.declared.faults.LineWhy.{LineWhy}
 use Rattle.campaign_server.specs.Asking.{request_of}
 use Rattle.campaign_server.specs.Fragments.{next_fragment, after_fragment, status_to_all, after_status_to_all}
 use Rattle.std.specs.Result.{result_ok}
 use Rattle.campaign_world.specs.declared.numbered.SentPayload.{SentPayload}
 use Rattle.campaign_world.specs.World.{WorldState}
-use Rattle.campaign_world.specs.Said.{Said, Own, Elsewhere, Reached}
+use Rattle.campaign_world.specs.Said.{Own, Elsewhere}
 use Rattle.campaign_world.specs.Making.{with_sent, event_of, with_event, after_form, after_said}
 use Rattle.campaign_server.specs.Server.{DownlinkCommand}
 use Rattle.campaign_laws.proofs.HeadlineCounts.{sent_many, event_many, up_many}
@@ -29,9 +27,9 @@ use Rattle.pair_run.specs.declared.targets.Way.TheVariants as way
 use Rattle.pair_run.specs.Targets.{Target, Header, At, End, One, Across, Nobody, to_owner, carried_form, carried_target, common_target, named_target, target_for, count_of, target_of}
 use Rattle.pair_run.specs.Pair.{PairState, first_pair, side, other, is_same}
 use Rattle.pair_run.specs.PairCauses.{pair_cause_of, target_in}
-use Rattle.pair_run.specs.PairMaking.{said_to, reached_by, behind, joined, newcomers, after_target}
+use Rattle.pair_run.specs.PairMaking.{reached_by, behind, joined, newcomers, after_target}
 use Rattle.pair_run.specs.PairReport.{pair_image_line, part_of, pair_parts, pair_report_of}
-use Rattle.pair_run.specs.PairScript.{after_pair_line, pair_line_result, read_pair_line, read_pair_lines, campaigns_of}
+use Rattle.pair_run.specs.PairScript.{after_pair_line, pair_line_result, read_pair_line, read_pair_lines}
 use Rattle.isolation_laws.specs.EachHeadline.{owner_of}
 use Rattle.isolation_laws.specs.PairTold.{pair_report_with, EachIsReported}
 use Rattle.isolation_laws.proofs.Goes.{pair_read}

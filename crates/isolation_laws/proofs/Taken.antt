@@ -1,5 +1,5 @@
 -- What a line of two campaigns that no cause refuses is to each of them.
-use Rattle.std.proofs.Common.{◌≡◌, ℕ, ◌+◌, Bool, true, false, not, cond, ◌==◌, ◌&&◌, ◌||◌, nat_le, nat_lt, List, length, Option, Some, None, is_none, Ok, refl, sym, ap, ◌∙◌, subst, true≢false}
+use Rattle.std.proofs.Common.{◌≡◌, ℕ, ◌+◌, Bool, true, false, not, cond, ◌==◌, ◌&&◌, List, length, Option, Some, None, is_none, Ok, refl, sym, ap, ◌∙◌, subst, true≢false}
 use Rattle.std.proofs.lemmas.Bool.{and_parts, eqb-false}
 use Rattle.wire_base.specs.Numbered.{numbered}
 use Rattle.script_lines.specs.declared.forms.Campaign.{Campaign}
@@ -7,10 +7,7 @@ use Rattle.script_lines.specs.declared.forms.Campaign.TheVariants as campaign
 use Rattle.script_lines.specs.declared.forms.Form.{Form}
 use Rattle.script_lines.specs.declared.forms.Form.TheVariants as form
 use Rattle.script_lines.specs.declared.forms.PairForm.{PairForm}
-use Rattle.script_lines.specs.PairForms.{pair_form_of}
-use Rattle.script_lines.specs.Limits.{max_lines, max_line}
 use Rattle.script_lines.specs.Ranges.{in_range}
-use Rattle.report_lines.specs.declared.faults.LineWhy.{LineWhy}
 use Rattle.report_lines.specs.declared.faults.LineWhy.TheVariants as why
 use Rattle.campaign_server.specs.Plan.{Plan}
 use Rattle.campaign_world.specs.declared.numbered.SentPayload.{SentPayload}
@@ -18,19 +15,19 @@ use Rattle.campaign_world.specs.declared.section.Section.{Section}
 use Rattle.campaign_world.specs.declared.section.Section.TheVariants as section
 use Rattle.campaign_world.specs.World.{WorldState}
 use Rattle.campaign_world.specs.Said.{Said, Own, Elsewhere, Reached}
-use Rattle.campaign_world.specs.Causes.{takes_events, is_device, form_cause, said_cause, cause_of}
+use Rattle.campaign_world.specs.Causes.{is_device, said_cause, cause_of}
 use Rattle.campaign_world.specs.Script.{after_line}
 use Rattle.pair_run.specs.declared.owners.Owner.{Owner}
 use Rattle.pair_run.specs.declared.targets.Way.{Way}
 use Rattle.pair_run.specs.declared.targets.Way.TheVariants as way
 use Rattle.pair_run.specs.Targets.{Target, Header, At, End, One, Across, Nobody, to_owner, carried_form, carried_target, common_target, named_target, target_for, target_of}
 use Rattle.pair_run.specs.Pair.{PairState, side, other, is_same}
-use Rattle.pair_run.specs.PairCauses.{pair_cause_of, cause_of_pair_form, pair_form_cause, common_cause, crossing_cause, may_cross, goes_by, target_cause, target_in, pair_may_come, is_planned, is_next, is_apart}
-use Rattle.pair_run.specs.PairMaking.{said_to, reached_by, after_target}
+use Rattle.pair_run.specs.PairCauses.{pair_cause_of, common_cause, crossing_cause, may_cross, goes_by, target_cause, target_in, pair_may_come, is_planned, is_next, is_apart}
+use Rattle.pair_run.specs.PairMaking.{said_to, reached_by}
 use Rattle.pair_run.specs.PairScript.{after_pair_line}
 use Rattle.pair_run.specs.PairLines.{line_to}
-use Rattle.pair_run.proofs.Accepts.{neither, cut_cause, may_cross_over, MayCross}
-use Rattle.pair_run.proofs.Unrefused.{Unrefused, unrefused, MayReach, said_fine, few_of, cause_is, after_is, said_by, side_after}
+use Rattle.pair_run.proofs.Accepts.{neither, cut_cause, may_cross_over}
+use Rattle.pair_run.proofs.Unrefused.{unrefused, MayReach, said_fine, few_of, cause_is, after_is, said_by, side_after}
 use Rattle.isolation_laws.proofs.PairFields.{Has, pair_form_has}
 
 -- ---- what it says to its own campaign

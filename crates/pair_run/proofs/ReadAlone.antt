@@ -1,30 +1,21 @@
 -- Each campaign of a pair is what its own image, and what the lines say to it, define.
-use Rattle.std.proofs.Common.{◌≡◌, ℕ, Bool, true, false, cond, ◌||◌, nat_le, nat_lt, List, [], ◌∷◌, length, Option, Some, None, Result, Ok, Err, refl, sym, ap, ◌∙◌, subst}
+use Rattle.std.proofs.Common.{◌≡◌, ℕ, Bool, true, false, cond, List, [], ◌∷◌, Option, Some, None, Result, Ok, Err, refl, sym, ap, ◌∙◌, subst}
 use Rattle.std.proofs.lemmas.Bool.{and_parts}
-use Rattle.wire_base.specs.Numbered.{numbered}
 use Rattle.script_lines.specs.declared.forms.Campaign.{Campaign}
 use Rattle.script_lines.specs.declared.forms.Campaign.TheVariants as campaign
-use Rattle.script_lines.specs.declared.forms.Form.TheVariants as form
-use Rattle.script_lines.specs.declared.forms.PairForm.{PairForm}
-use Rattle.script_lines.specs.PairForms.{pair_form_of}
-use Rattle.script_lines.specs.Limits.{max_lines, max_line}
 use Rattle.report_lines.specs.declared.faults.LineWhy.{LineWhy}
-use Rattle.report_lines.specs.declared.faults.LineWhy.TheVariants as why
 use Rattle.report_lines.specs.declared.faults.LineFault.{LineFault}
-use Rattle.campaign_world.specs.declared.numbered.SentPayload.{SentPayload}
 use Rattle.campaign_world.specs.World.{WorldState}
-use Rattle.campaign_world.specs.Said.{Said, Line}
-use Rattle.campaign_world.specs.Causes.{takes_events, is_device, has_ended, form_cause, said_cause, cause_of}
+use Rattle.campaign_world.specs.Said.{Line}
+use Rattle.campaign_world.specs.Causes.{has_ended, cause_of}
 use Rattle.campaign_world.specs.Script.{after_line, line_result, read_line, read_lines, campaign_of}
 use Rattle.campaign_world.proofs.Lines.{ended, is_ended}
-use Rattle.pair_run.specs.declared.targets.Way.{Way}
-use Rattle.pair_run.specs.Targets.{Target, Header, At, End, One, Across, Nobody}
 use Rattle.pair_run.specs.Pair.{PairState, first_pair, side}
-use Rattle.pair_run.specs.PairCauses.{pair_cause_of, cause_of_pair_form, pair_form_cause, common_cause, crossing_cause, target_cause, target_in}
-use Rattle.pair_run.specs.PairMaking.{said_to, reached_by, after_target}
+use Rattle.pair_run.specs.PairCauses.{pair_cause_of, common_cause, target_cause, target_in}
+use Rattle.pair_run.specs.PairMaking.{said_to}
 use Rattle.pair_run.specs.PairScript.{after_pair_line, pair_line_result, read_pair_line, read_pair_lines, pair_has_ended, pair_end, campaigns_of}
 use Rattle.pair_run.specs.PairLines.{line_to, lines_to, EachReadsItsLines}
-use Rattle.pair_run.proofs.Accepts.{neither, cut_cause, may_cross_over, MayCross}
+use Rattle.pair_run.proofs.Accepts.{neither, may_cross_over}
 use Rattle.pair_run.proofs.Unrefused.{unrefused, said_fine, few_of, cause_is, after_is, said_by, side_after}
 
 -- ---- a line is read as the campaign by itself reads what it says to it

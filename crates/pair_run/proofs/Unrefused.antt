@@ -1,6 +1,5 @@
 -- What a line that no cause refuses is to each campaign of a pair.
-use Rattle.std.proofs.Common.{◌≡◌, ℕ, Bool, true, false, cond, ◌||◌, nat_le, nat_lt, List, [], ◌∷◌, length, Option, Some, None, Result, Ok, Err, refl, sym, ap, ◌∙◌, subst, ◌+◌, not, ◌==◌, ◌&&◌, is_none, true≢false}
-use Rattle.std.proofs.lemmas.Bool.{and_parts, eqb-false}
+use Rattle.std.proofs.Common.{◌≡◌, ℕ, Bool, true, false, cond, ◌||◌, nat_le, nat_lt, List, length, Option, Some, None, Ok, refl}
 use Rattle.wire_base.specs.Numbered.{numbered}
 use Rattle.script_lines.specs.declared.forms.Campaign.{Campaign}
 use Rattle.script_lines.specs.declared.forms.Campaign.TheVariants as campaign
@@ -10,28 +9,19 @@ use Rattle.script_lines.specs.PairForms.{pair_form_of}
 use Rattle.script_lines.specs.Limits.{max_lines, max_line}
 use Rattle.report_lines.specs.declared.faults.LineWhy.{LineWhy}
 use Rattle.report_lines.specs.declared.faults.LineWhy.TheVariants as why
-use Rattle.report_lines.specs.declared.faults.LineFault.{LineFault}
 use Rattle.campaign_world.specs.declared.numbered.SentPayload.{SentPayload}
 use Rattle.campaign_world.specs.World.{WorldState}
-use Rattle.campaign_world.specs.Said.{Said, Line, Own, Elsewhere, Reached}
-use Rattle.campaign_world.specs.Causes.{takes_events, is_device, has_ended, form_cause, said_cause, cause_of}
-use Rattle.campaign_world.specs.Script.{after_line, line_result, read_line, read_lines, campaign_of}
-use Rattle.campaign_world.proofs.Lines.{ended, is_ended}
+use Rattle.campaign_world.specs.Said.{Said}
+use Rattle.campaign_world.specs.Causes.{takes_events, is_device, form_cause, said_cause, cause_of}
+use Rattle.campaign_world.specs.Script.{after_line}
 use Rattle.pair_run.specs.declared.targets.Way.{Way}
-use Rattle.pair_run.specs.Targets.{Target, Header, At, End, One, Across, Nobody, to_owner, carried_form, carried_target, common_target, named_target, target_for, target_of}
-use Rattle.pair_run.specs.Pair.{PairState, first_pair, side, other, is_same}
-use Rattle.pair_run.specs.PairCauses.{pair_cause_of, cause_of_pair_form, pair_form_cause, common_cause, crossing_cause, target_cause, target_in, may_cross, goes_by, pair_may_come, is_planned, is_next, is_apart}
+use Rattle.pair_run.specs.Targets.{Target, Header, At, End, One, Across, Nobody}
+use Rattle.pair_run.specs.Pair.{PairState, side}
+use Rattle.pair_run.specs.PairCauses.{pair_cause_of, cause_of_pair_form, pair_form_cause, crossing_cause, target_cause, target_in}
 use Rattle.pair_run.specs.PairMaking.{said_to, reached_by, after_target}
-use Rattle.pair_run.specs.PairScript.{after_pair_line, pair_line_result, read_pair_line, read_pair_lines, pair_has_ended, pair_end, campaigns_of}
-use Rattle.pair_run.specs.PairLines.{line_to, lines_to, EachReadsItsLines}
-use Rattle.pair_run.proofs.Accepts.{neither, cut_cause, may_cross_over, MayCross}
-use Rattle.script_lines.specs.declared.forms.Form.{Form}
-use Rattle.script_lines.specs.Ranges.{in_range}
-use Rattle.campaign_server.specs.Plan.{Plan}
-use Rattle.campaign_world.specs.declared.section.Section.{Section}
-use Rattle.campaign_world.specs.declared.section.Section.TheVariants as section
-use Rattle.pair_run.specs.declared.owners.Owner.{Owner}
-use Rattle.pair_run.specs.declared.targets.Way.TheVariants as way
+use Rattle.pair_run.specs.PairScript.{after_pair_line}
+use Rattle.pair_run.specs.PairLines.{line_to}
+use Rattle.pair_run.proofs.Accepts.{neither, cut_cause, MayCross}
 
 -- ---- a line of which no cause holds
 
