@@ -11,7 +11,9 @@ ghost use Rattle.fuota_c.specs.Device.{IsNewDevice, IsMade, DeliversOrNot, Wakes
 use crate::config::{ConfigFields, config_of, fits};
 use crate::device_handle::DeviceHandle;
 use crate::shown::{ViewFields, file_in, show};
-use c_base::answer::{DEAF, DONE, DOWN, FLASH, FULL, NO_MEMORY, NO_OBJECT, NOTHING, RANGE, REFUSED};
+use c_base::answer::{
+    DEAF, DONE, DOWN, FLASH, FULL, NO_MEMORY, NO_OBJECT, NOTHING, RANGE, REFUSED,
+};
 use c_base::{copy_part, put_whole};
 use device_core::{Delivered, Device, DeviceConfig, OutboxFull, ReserveError, Uplink};
 use flash_session::CellFlash;

@@ -52,7 +52,15 @@ pub extern "C" fn fuota_device_restore_in_flash(
     ensures { IsDeviceBack (held_config_of config.now span) flash.now saved.now running.now
         next.now handle.new.held result }
 {
-    put_back(handle, alloc, held_config_of(config, span), flash, saved, running, next)
+    put_back(
+        handle,
+        alloc,
+        held_config_of(config, span),
+        flash,
+        saved,
+        running,
+        next,
+    )
 }
 
 /// Opens the sessions that are held in flash, and offers each file that is whole now, and was not when the device was last up,
