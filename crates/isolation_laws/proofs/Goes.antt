@@ -114,8 +114,8 @@ Apart pair = is_late pair.b.section ≡ true → (is_late pair.a.section ≡ tru
 early_only : (here : Section) (form : Form) → is_late here ≡ false → is_early form ≡ false → is_in_order here form ≡ true → ⊥
 early_only here form =
     by_section (λ (x : Section). is_late x ≡ false → is_early form ≡ false → is_in_order x form ≡ true → ⊥) (λ early late may. not_header form late may)
-    (λ early late may. not_image form late may) (λ early. true≢false early) (λ early. true≢false early) (λ early. true≢false early) (λ early. true≢false early)
-    (λ early. true≢false early) (λ early. true≢false early) here
+    (λ early late may. not_image form late may) (λ early. absurd (true≢false early)) (λ early. absurd (true≢false early)) (λ early. absurd (true≢false early)) (λ early. absurd (true≢false early))
+    (λ early. absurd (true≢false early)) (λ early. absurd (true≢false early)) here
 
 events_late : (here : Section) → takes_events here ≡ true → is_late here ≡ true
 events_late =
