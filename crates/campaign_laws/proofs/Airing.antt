@@ -47,6 +47,7 @@ use Rattle.campaign_laws.proofs.HeadlineWorlds.{IsPayloadOf, Keeps}
 use Rattle.campaign_laws.proofs.OwnGroups.{IsOwn, HasOwn, held_group, reboot_groups, same_by}
 use Rattle.campaign_laws.proofs.Keyed.{FitsGroup, IsDue, IsDueOf, IsFramed, IsKept, IsKeyed}
 use Rattle.campaign_laws.proofs.KeyedLines.{Keyed}
+use Rattle.campaign_world.proofs.Sections.{by_section}
 
 -- ---- a frame at a device
 
@@ -224,14 +225,8 @@ second_of true b is = is
 second_of false b is = absurd cc
 
 pub may_alike : (here : Section) (number n word : ℕ) → is_in_order here (Air number n word) ≡ is_in_order here (Down number n word)
-may_alike section.Header number n word = refl
-may_alike section.Image number n word = refl
-may_alike section.Group number n word = refl
-may_alike section.Window number n word = refl
-may_alike section.Device number n word = refl
-may_alike section.Devices number n word = refl
-may_alike section.Events number n word = refl
-may_alike section.Ended number n word = refl
+may_alike here number n word =
+    by_section (λ (x : Section). is_in_order x (Air number n word) ≡ is_in_order x (Down number n word)) refl refl refl refl refl refl refl refl here
 
 -- the causes up to that of what was not sent
 abbrev pub up_to_sent : (may ranged names sent : Bool) → Option LineWhy

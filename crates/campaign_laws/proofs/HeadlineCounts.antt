@@ -34,6 +34,7 @@ use Rattle.campaign_laws.specs.Lives.{HasItsDevices}
 use Rattle.campaign_world.proofs.FormCauses.{event_at, passes}
 use Rattle.campaign_laws.proofs.HeadlineForms.{reached_passes}
 use Rattle.campaign_laws.proofs.HeadlineLines.{cause_by, end_is, ended}
+use Rattle.campaign_world.proofs.Sections.{by_section, never}
 
 -- where events may come there are devices
 abbrev SomeIn : Section → ℕ → Type 0
@@ -221,14 +222,8 @@ form_counted w End fine k =
 
 -- where events may come, a line may that wakes a device
 takes_wake : (here : Section) → takes_events here ≡ true → is_in_order here (Wake 1) ≡ true
-takes_wake section.Header takes = absurd cc
-takes_wake section.Image takes = absurd cc
-takes_wake section.Group takes = absurd cc
-takes_wake section.Window takes = absurd cc
-takes_wake section.Device takes = absurd cc
-takes_wake section.Devices takes = refl
-takes_wake section.Events takes = refl
-takes_wake section.Ended takes = absurd cc
+takes_wake =
+    by_section (λ (here : Section). takes_events here ≡ true → is_in_order here (Wake 1) ≡ true) never never never never never (λ takes. refl) (λ takes. refl) never
 
 -- what a line says
 said_counted : (w : WorldState) (said : Said) → said_cause w said ≡ None → IsCounted w → IsCounted (after_said w said)

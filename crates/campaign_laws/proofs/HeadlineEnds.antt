@@ -36,7 +36,7 @@ use Rattle.campaign_server.specs.Fragments.{receivers, has_no_count, after_count
 use Rattle.campaign_server.specs.Time.{time_answer_to, first_answer, time_answer}
 use Rattle.campaign_server.specs.Uplinks.{with_answers}
 use Rattle.device_core.proofs.SessionSteps.{setup_keeps, fragment_keeps}
-use Rattle.campaign_laws.proofs.HeadlineCommands.{Cut, cut_of, setup_req, fragment_command, IsSentOf, IsCut}
+use Rattle.campaign_laws.proofs.HeadlineCommands.{Cut, cut_of, setup_req, fragment_command, IsNumber, IsSentOf, IsCut}
 use Rattle.campaign_laws.proofs.OwnSession.{at_own, at_other}
 use Rattle.device_core.proofs.Stays.{Moves, Stays}
 use Rattle.campaign_laws.proofs.HeadlinePayloads.{Acts}
@@ -222,37 +222,38 @@ ask_sent image s dev k =
     subst (λ (i : List ℕ). IfSome (request_of s dev) (IsDown i (cut_of s.plan))) k.image_is
     (down_of s.image (cut_of s.plan) _ (command_sent s.plan s.image (numbered s.plan.devices dev) (ledger s dev)))
 
-counted_by : (image : List ℕ) (cut : Cut) (b : Bool) (down : DownlinkCommand) → IsDown image cut down
-    → IfSome (result_ok (cond {A = Result DownlinkCommand Spent} b (Err Counts) (Ok down))) (IsDown image cut)
-counted_by image cut true down k = tt
-counted_by image cut false down k = k
+-- what goes to all is of a kind P where the next fragment is, and nothing is sent where none is left or no count
+counted_by : (P : DownlinkCommand → Type 0) (b : Bool) (down : DownlinkCommand) → P down
+    → IfSome (result_ok (cond {A = Result DownlinkCommand Spent} b (Err Counts) (Ok down))) P
+counted_by P true down k = tt
+counted_by P false down k = k
 
-next_by : (image : List ℕ) (cut : Cut) (parity next count : ℕ) (group : Option PlanGroup) (b : Bool)
+pub next_by : (P : DownlinkCommand → Type 0) (image : List ℕ) (cut : Cut) (parity next count : ℕ) (group : Option PlanGroup) (b : Bool)
     → nat_lt (nb_frag_of (length image) cut.size + parity) next ≡ b → 1 ≤ next → parity ≤ 512
+    → (IsNumber image cut.size next → P (record { to = receivers group count; command = fragment_command image cut next }))
     → IfSome (result_ok (cond {A = Result DownlinkCommand Spent} b (Err Fragments)
     (cond {A = Result DownlinkCommand Spent} (has_no_count group count) (Err Counts)
-    (Ok (record { to = receivers group count; command = fragment_command image cut next })))))
-    (IsDown image cut)
-next_by image cut parity next count group true is from few = tt
-next_by image cut parity next count group false is from few =
+    (Ok (record { to = receivers group count; command = fragment_command image cut next }))))) P
+next_by P image cut parity next count group true is from few one = tt
+next_by P image cut parity next count group false is from few one =
     let last = ltb-false _ _ is in
-    counted_by image cut (has_no_count group count) _ (inr (inl (next, (from, omega (arith, last, few)), refl)))
+    counted_by P (has_no_count group count) _ (one (from, omega (arith, last, few)))
 
 pub fragment_sent : (image : List ℕ) (s : ServerState) → IsServerOf image s
     → IfSome (result_ok (next_fragment s)) (IsDown image (cut_of s.plan))
 unfolding next_fragment
 fragment_sent image s k =
     subst (λ (i : List ℕ). IfSome (result_ok (next_fragment s)) (IsDown i (cut_of s.plan))) k.image_is
-    (next_by s.image (cut_of s.plan) s.plan.parity s.next s.count s.plan.group _ refl k.next k.few)
+    (next_by (IsDown s.image (cut_of s.plan)) s.image (cut_of s.plan) s.plan.parity s.next s.count s.plan.group _ refl k.next k.few
+    (λ fine. inr (inl (s.next, fine, refl))))
 
-all_by : (image : List ℕ) (cut : Cut) (b : Bool) (down : DownlinkCommand) → IsDown image cut down
-    → IfSome (cond b None (Some down)) (IsDown image cut)
-all_by image cut true down k = tt
-all_by image cut false down k = k
+pub all_by : (P : DownlinkCommand → Type 0) (b : Bool) (down : DownlinkCommand) → P down → IfSome (cond b None (Some down)) P
+all_by P true down k = tt
+all_by P false down k = k
 
 pub status_sent : (image : List ℕ) (s : ServerState) → IfSome (status_to_all s) (IsDown image (cut_of s.plan))
 unfolding status_to_all
-status_sent image s = all_by image (cut_of s.plan) (has_no_count s.plan.group s.count) _ (inr (inr (inl (false, refl))))
+status_sent image s = all_by (IsDown image (cut_of s.plan)) (has_no_count s.plan.group s.count) _ (inr (inr (inl (false, refl))))
 
 -- the server goes on, and cuts alike
 pub record GoesOn (image : List ℕ) (s new : ServerState) : Type 0 where

@@ -42,6 +42,7 @@ use Rattle.campaign_laws.proofs.HeadlinePayloads.{sent_acts}
 use Rattle.campaign_laws.proofs.HeadlineEnds.{IsDeviceFor, IsServerOf, IsDown, ask_sent, fragment_sent, status_sent, GoesOn, fragment_goes, status_goes, answers_go, time_sent}
 use Rattle.campaign_laws.proofs.Crossing.{crossing_stays}
 use Rattle.campaign_laws.proofs.HeadlineWorlds.{IsPayloadOf, StandsIn, Keeps, is_down, HasStayed, Turns}
+use Rattle.campaign_world.proofs.Sections.{by_section, never}
 
 -- ---- a form that is not refused
 
@@ -69,37 +70,22 @@ passes w form fine =
 
 at_header : (image : List ℕ) (w : WorldState) (here : Section) → is_in_order here Header ≡ true → StandsIn image w here
     → (w.sent ≡ []) × (w.devices ≡ [])
-at_header image w section.Header may stands = stands
-at_header image w section.Image may stands = stands
-at_header image w section.Group may stands = absurd cc
-at_header image w section.Window may stands = absurd cc
-at_header image w section.Device may stands = absurd cc
-at_header image w section.Devices may stands = absurd cc
-at_header image w section.Events may stands = absurd cc
-at_header image w section.Ended may stands = absurd cc
+at_header image w =
+    by_section (λ (x : Section). is_in_order x Header ≡ true → StandsIn image w x → (w.sent ≡ []) × (w.devices ≡ [])) (λ may stands. stands)
+    (λ may stands. stands) never never never never never never
 
 at_image : (image : List ℕ) (w : WorldState) (size parity index : ℕ) (here : Section)
     → is_in_order here (Image size parity index) ≡ true → StandsIn image w here → (w.sent ≡ []) × (w.devices ≡ [])
-at_image image w size parity index section.Header may stands = stands
-at_image image w size parity index section.Image may stands = stands
-at_image image w size parity index section.Group may stands = absurd cc
-at_image image w size parity index section.Window may stands = absurd cc
-at_image image w size parity index section.Device may stands = absurd cc
-at_image image w size parity index section.Devices may stands = absurd cc
-at_image image w size parity index section.Events may stands = absurd cc
-at_image image w size parity index section.Ended may stands = absurd cc
+at_image image w size parity index =
+    by_section (λ (x : Section). is_in_order x (Image size parity index) ≡ true → StandsIn image w x → (w.sent ≡ []) × (w.devices ≡ []))
+    (λ may stands. stands) (λ may stands. stands) never never never never never never
 
 at_group : (image : List ℕ) (w : WorldState) (id addr min max : ℕ) (key : List ℕ) (here : Section)
     → is_in_order here (Group id addr key min max) ≡ true → StandsIn image w here
     → (w.sent ≡ []) × (w.devices ≡ []) × IsCut image (cut_of w.server.plan)
-at_group image w id addr min max key section.Header may stands = absurd cc
-at_group image w id addr min max key section.Image may stands = absurd cc
-at_group image w id addr min max key section.Group may stands = stands
-at_group image w id addr min max key section.Window may stands = absurd cc
-at_group image w id addr min max key section.Device may stands = absurd cc
-at_group image w id addr min max key section.Devices may stands = absurd cc
-at_group image w id addr min max key section.Events may stands = absurd cc
-at_group image w id addr min max key section.Ended may stands = absurd cc
+at_group image w id addr min max key =
+    by_section (λ (x : Section). is_in_order x (Group id addr key min max) ≡ true → StandsIn image w x
+    → (w.sent ≡ []) × (w.devices ≡ []) × IsCut image (cut_of w.server.plan)) never never (λ may stands. stands) never never never never never
 
 -- any other form comes after the image's line
 abbrev pub is_early : Form → Bool
@@ -119,14 +105,10 @@ not_image form late may = true≢false (sym may)
 
 pub late_cut : (image : List ℕ) (w : WorldState) (form : Form) (here : Section) → is_early form ≡ false
     → is_in_order here form ≡ true → StandsIn image w here → IsCut image (cut_of w.server.plan)
-late_cut image w form section.Header late may stands = absurd (not_header form late may)
-late_cut image w form section.Image late may stands = absurd (not_image form late may)
-late_cut image w form section.Group late may stands = stands.2
-late_cut image w form section.Window late may stands = stands
-late_cut image w form section.Device late may stands = stands
-late_cut image w form section.Devices late may stands = stands
-late_cut image w form section.Events late may stands = stands
-late_cut image w form section.Ended late may stands = stands
+late_cut image w form here late =
+    by_section (λ (x : Section). is_in_order x form ≡ true → StandsIn image w x → IsCut image (cut_of w.server.plan))
+    (λ may stands. absurd (not_header form late may)) (λ may stands. absurd (not_image form late may)) (λ may stands. stands.2) (λ may stands. stands)
+    (λ may stands. stands) (λ may stands. stands) (λ may stands. stands) (λ may stands. stands) here
 
 -- ---- each form
 
@@ -482,14 +464,9 @@ form_turn image w End bytes k fine honest =
 -- an event comes after the image's line
 pub events_cut : (image : List ℕ) (w : WorldState) (here : Section) → takes_events here ≡ true → StandsIn image w here
     → IsCut image (cut_of w.server.plan)
-events_cut image w section.Header takes stands = absurd (true≢false (sym takes))
-events_cut image w section.Image takes stands = absurd (true≢false (sym takes))
-events_cut image w section.Group takes stands = absurd (true≢false (sym takes))
-events_cut image w section.Window takes stands = absurd (true≢false (sym takes))
-events_cut image w section.Device takes stands = absurd (true≢false (sym takes))
-events_cut image w section.Devices takes stands = stands
-events_cut image w section.Events takes stands = stands
-events_cut image w section.Ended takes stands = absurd (true≢false (sym takes))
+events_cut image w =
+    by_section (λ (x : Section). takes_events x ≡ true → StandsIn image w x → IsCut image (cut_of w.server.plan)) never never never never never
+    (λ takes stands. stands) (λ takes stands. stands) never
 
 -- the tests that a payload of another campaign's server passed
 pub reached_passes : (w : WorldState) (n word : ℕ) (down : Downlink) → said_cause w (Reached n word down) ≡ None

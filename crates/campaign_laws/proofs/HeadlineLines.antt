@@ -45,6 +45,7 @@ use Rattle.campaign_laws.proofs.HeadlineEnds.{IsSetFor, IsDeviceFor}
 use Rattle.campaign_laws.proofs.HeadlineWorlds.{Keeps, first_keeps, HasStayed, IsQuiet, Turns, IsReached, turn_keeps}
 use Rattle.campaign_laws.specs.Fields.{AllFit}
 use Rattle.campaign_laws.proofs.HonestLines.{heard_said, Says, says_down, Stands, first_stands, goes_on_by}
+use Rattle.campaign_world.proofs.Sections.{by_section}
 
 -- ---- deliveries as the campaign goes on
 
@@ -493,14 +494,9 @@ first_reads image index lines fits honest = record {
 }
 
 pub end_by : (here : Section) (w world : WorldState) → end_result_at here w ≡ Ok world → w ≡ world
-end_by section.Header w world is = absurd cc
-end_by section.Image w world is = absurd cc
-end_by section.Group w world is = absurd cc
-end_by section.Window w world is = absurd cc
-end_by section.Device w world is = absurd cc
-end_by section.Devices w world is = absurd cc
-end_by section.Events w world is = absurd cc
-end_by section.Ended w world is = cc
+end_by here w world =
+    by_section (λ (x : Section). end_result_at x w ≡ Ok world → w ≡ world) (λ is. absurd cc) (λ is. absurd cc) (λ is. absurd cc) (λ is. absurd cc)
+    (λ is. absurd cc) (λ is. absurd cc) (λ is. absurd cc) (λ is. cc) here
 
 pub end_is : (r : Result WorldState LineFault) (world : WorldState) → end_result r ≡ Ok world → r ≡ Ok world
 end_is (Err fault) world is = absurd cc
@@ -508,14 +504,9 @@ end_is (Ok w) world is =
     ap (λ (x : WorldState). let o : Result WorldState LineFault = Ok x in o) (end_by w.section w world is)
 
 ended_by : (here : Section) (w world : WorldState) → end_result_at here w ≡ Ok world → here ≡ section.Ended
-ended_by section.Header w world is = absurd cc
-ended_by section.Image w world is = absurd cc
-ended_by section.Group w world is = absurd cc
-ended_by section.Window w world is = absurd cc
-ended_by section.Device w world is = absurd cc
-ended_by section.Devices w world is = absurd cc
-ended_by section.Events w world is = absurd cc
-ended_by section.Ended w world is = refl
+ended_by here w world =
+    by_section (λ (x : Section). end_result_at x w ≡ Ok world → x ≡ section.Ended) (λ is. absurd cc) (λ is. absurd cc) (λ is. absurd cc) (λ is. absurd cc)
+    (λ is. absurd cc) (λ is. absurd cc) (λ is. absurd cc) (λ is. refl) here
 
 pub ended : (r : Result WorldState LineFault) (world : WorldState) → end_result r ≡ Ok world → world.section ≡ section.Ended
 ended (Err fault) world is = absurd cc

@@ -17,6 +17,7 @@ use Rattle.campaign_world.specs.Making.{after_form, after_said}
 use Rattle.campaign_laws.specs.Fields.{HasFields, LineFits}
 use Rattle.campaign_laws.proofs.HeadlineForms.{passes, is_early, not_header, not_image, reached_passes, is_odd}
 use Rattle.campaign_laws.proofs.PlanGroups.{IsSettled, given_settled, event_settled, sends_settled, up_settled, fragment_plan, status_plan}
+use Rattle.campaign_world.proofs.Sections.{by_section, never}
 
 -- until then it has none yet
 abbrev pub IsIndexed : (index : ℕ) → Section → Plan → Type 0
@@ -27,25 +28,15 @@ IsIndexed index here plan = plan.index ≡ index
 -- where this form may come, it has
 pub late_index : (index : ℕ) (plan : Plan) (form : Form) (here : Section) → is_early form ≡ false → is_in_order here form ≡ true
     → IsIndexed index here plan → plan.index ≡ index
-late_index index plan form section.Header late may k = absurd (not_header form late may)
-late_index index plan form section.Image late may k = absurd (not_image form late may)
-late_index index plan form section.Group late may k = k
-late_index index plan form section.Window late may k = k
-late_index index plan form section.Device late may k = k
-late_index index plan form section.Devices late may k = k
-late_index index plan form section.Events late may k = k
-late_index index plan form section.Ended late may k = k
+late_index index plan form here late =
+    by_section (λ (x : Section). is_in_order x form ≡ true → IsIndexed index x plan → plan.index ≡ index) (λ may k. absurd (not_header form late may))
+    (λ may k. absurd (not_image form late may)) (λ may k. k) (λ may k. k) (λ may k. k) (λ may k. k) (λ may k. k) (λ may k. k) here
 
 -- and where events may
 pub events_index : (index : ℕ) (plan : Plan) (here : Section) → takes_events here ≡ true → IsIndexed index here plan → plan.index ≡ index
-events_index index plan section.Header takes k = absurd (true≢false (sym takes))
-events_index index plan section.Image takes k = absurd (true≢false (sym takes))
-events_index index plan section.Group takes k = absurd (true≢false (sym takes))
-events_index index plan section.Window takes k = absurd (true≢false (sym takes))
-events_index index plan section.Device takes k = absurd (true≢false (sym takes))
-events_index index plan section.Devices takes k = k
-events_index index plan section.Events takes k = k
-events_index index plan section.Ended takes k = absurd (true≢false (sym takes))
+events_index index plan =
+    by_section (λ (x : Section). takes_events x ≡ true → IsIndexed index x plan → plan.index ≡ index) never never never never never (λ takes k. k)
+    (λ takes k. k) never
 
 same_index : (w v : WorldState) → IsSettled w v → v.server.plan.index ≡ w.server.plan.index
 same_index w v s = ap (λ (p : Plan). p.index) s.plan

@@ -24,6 +24,7 @@ use Rattle.campaign_world.specs.Said.{Said, Own, Elsewhere, Reached}
 use Rattle.campaign_world.specs.Causes.{is_event_or_end, is_in_order, form_cause, said_cause}
 use Rattle.campaign_world.specs.Making.{with_sent, with_device, event_of, after_event_at, with_event, with_event_of, after_answer, after_up, at_events, after_form, after_said}
 use Rattle.campaign_laws.proofs.HeadlineForms.{passes}
+use Rattle.campaign_world.proofs.Sections.{by_section, never}
 
 -- no event was yet
 abbrev pub is_planning : Section → Bool
@@ -32,14 +33,9 @@ is_planning section.Ended = false
 is_planning here = true
 
 pub plan_at : (here : Section) (form : Form) → is_event_or_end form ≡ false → is_in_order here form ≡ true → is_planning here ≡ true
-plan_at section.Header form plan may = refl
-plan_at section.Image form plan may = refl
-plan_at section.Group form plan may = refl
-plan_at section.Window form plan may = refl
-plan_at section.Device form plan may = refl
-plan_at section.Devices form plan may = refl
-plan_at section.Events form plan may = absurd (let both : true ≡ false = sym may ∙ plan in cc)
-plan_at section.Ended form plan may = absurd cc
+plan_at here form plan =
+    by_section (λ (x : Section). is_in_order x form ≡ true → is_planning x ≡ true) (λ may. refl) (λ may. refl) (λ may. refl) (λ may. refl) (λ may. refl)
+    (λ may. refl) (λ may. absurd (let both : true ≡ false = sym may ∙ plan in cc)) never here
 
 -- no line of a plan comes any more
 pub no_plan : {X : Type 0} (w : WorldState) (form : Form) → form_cause w form ≡ None → is_planning w.section ≡ false

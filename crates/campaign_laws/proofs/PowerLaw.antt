@@ -20,18 +20,13 @@ use Rattle.campaign_laws.proofs.HeadlineLines.{end_is}
 use Rattle.campaign_laws.proofs.HonestLines.{few_lines}
 use Rattle.campaign_laws.proofs.Independence.{said_told, read_first, line_fine}
 use Rattle.campaign_laws.proofs.AirLaw.{read_same}
+use Rattle.campaign_world.proofs.Sections.{by_section}
 
 -- ---- where the one may come, the other may
 
 may_alike : (here : Section) (device time : ℕ) → is_in_order here (At time) ≡ is_in_order here (Power device)
-may_alike section.Header device time = refl
-may_alike section.Image device time = refl
-may_alike section.Group device time = refl
-may_alike section.Window device time = refl
-may_alike section.Device device time = refl
-may_alike section.Devices device time = refl
-may_alike section.Events device time = refl
-may_alike section.Ended device time = refl
+may_alike here device time =
+    by_section (λ (x : Section). is_in_order x (At time) ≡ is_in_order x (Power device)) refl refl refl refl refl refl refl refl here
 
 at_fine : (w : WorldState) → w.time ≤ max_time → is_in_order w.section (At w.time) ≡ true → form_cause w (At w.time) ≡ None
 unfolding form_cause in_range

@@ -34,6 +34,7 @@ use Rattle.campaign_world.specs.Making.{device_of, formats_of, span_of}
 use Rattle.script_lines.specs.declared.forms.Class.{Class}
 use Rattle.script_lines.specs.declared.forms.Class.TheVariants as class
 use Rattle.campaign_world.specs.WorldInside.{IsPlanned, IsPlanning, IsSized, IsWindowed, IsToBegin}
+use Rattle.campaign_world.proofs.Sections.{by_section, never, clash}
 
 pub order : (world : WorldState) (form : Form) → is_in_order world.section form ≡ false → form_cause world form ≡ Some why.Order
 unfolding form_cause
@@ -230,14 +231,9 @@ fine_of lines section kept held form fine =
 
 at_events_only : (test : Section → Bool) → test place.Header ≡ false → test place.Image ≡ false → test place.Group ≡ false → test place.Window ≡ false → test place.Device ≡ false → test place.Ended ≡ false
     → (s : Section) → test s ≡ true → (s ≡ place.Devices) ⊎ (s ≡ place.Events)
-at_events_only test one two three four five six place.Header comes = absurd cc
-at_events_only test one two three four five six place.Image comes = absurd cc
-at_events_only test one two three four five six place.Group comes = absurd cc
-at_events_only test one two three four five six place.Window comes = absurd cc
-at_events_only test one two three four five six place.Device comes = absurd cc
-at_events_only test one two three four five six place.Devices comes = inl refl
-at_events_only test one two three four five six place.Events comes = inr refl
-at_events_only test one two three four five six place.Ended comes = absurd cc
+at_events_only test one two three four five six =
+    by_section (λ (s : Section). test s ≡ true → (s ≡ place.Devices) ⊎ (s ≡ place.Events)) (clash _ one) (clash _ two) (clash _ three)
+    (clash _ four) (clash _ five) (λ comes. inl refl) (λ comes. inr refl) (clash _ six)
 
 pub event_at : (s : Section) (f : Form) → is_event_or_end f ≡ true → is_in_order s f ≡ true → (s ≡ place.Devices) ⊎ (s ≡ place.Events)
 event_at s form.Header event comes = absurd cc
@@ -279,30 +275,13 @@ event_comes false f comes = comes
 event_comes true f comes = absurd cc
 
 pub image_at : (s : Section) (f : Form) (frag_size parity index : ℕ) → f ≡ form.Image frag_size parity index → is_in_order s f ≡ true → s ≡ place.Image
-image_at s f frag_size parity index is comes = by_section s (rw is at comes)
-  where
-    by_section : (s : Section) → is_in_order s (form.Image frag_size parity index) ≡ true → s ≡ place.Image
-    by_section place.Header comes = absurd cc
-    by_section place.Image comes = refl
-    by_section place.Group comes = absurd cc
-    by_section place.Window comes = absurd cc
-    by_section place.Device comes = absurd cc
-    by_section place.Devices comes = absurd cc
-    by_section place.Events comes = absurd cc
-    by_section place.Ended comes = absurd cc
+image_at s f frag_size parity index is comes =
+    by_section (λ (x : Section). is_in_order x (form.Image frag_size parity index) ≡ true → x ≡ place.Image) never (λ c. refl) never never never never never never
+    s (rw is at comes)
 
 pub header_at : (s : Section) (f : Form) → f ≡ form.Header → is_in_order s f ≡ true → s ≡ place.Header
-header_at s f is comes = by_section s (rw is at comes)
-  where
-    by_section : (s : Section) → is_in_order s form.Header ≡ true → s ≡ place.Header
-    by_section place.Header comes = refl
-    by_section place.Image comes = absurd cc
-    by_section place.Group comes = absurd cc
-    by_section place.Window comes = absurd cc
-    by_section place.Device comes = absurd cc
-    by_section place.Devices comes = absurd cc
-    by_section place.Events comes = absurd cc
-    by_section place.Ended comes = absurd cc
+header_at s f is comes =
+    by_section (λ (x : Section). is_in_order x form.Header ≡ true → x ≡ place.Header) (λ c. refl) never never never never never never never s (rw is at comes)
 
 -- without a group no window is needed
 alone : (plan : Plan) → plan.group ≡ None → plan.window ≡ None → IsWindowed plan
@@ -310,42 +289,22 @@ alone plan no_group no_window = rw (no_group, no_window) refl
 
 pub joins_at : (image : List ℕ) (s : Section) (plan : Plan) (devices : List Late) (f : Form) (id hw rows offset : ℕ) (k : Class) (key : List ℕ) (descriptor : Option ℕ) (v1 k11 flash : Bool)
     → f ≡ form.Device id k hw rows offset key descriptor v1 k11 flash → is_in_order s f ≡ true → IsPlanned image s plan devices → IsSized image plan devices × IsWindowed plan
-joins_at image s plan devices f id hw rows offset k key descriptor v1 k11 flash is comes planned = by_section s (rw is at comes) planned
-  where
-    by_section : (s : Section) → is_in_order s (form.Device id k hw rows offset key descriptor v1 k11 flash) ≡ true → IsPlanned image s plan devices → IsSized image plan devices × IsWindowed plan
-    by_section place.Header comes planned = absurd cc
-    by_section place.Image comes planned = absurd cc
-    by_section place.Group comes planned = (planned.0, alone plan planned.1 planned.2)
-    by_section place.Window comes planned = absurd cc
-    by_section place.Device comes planned = planned
-    by_section place.Devices comes planned = (planned.0, planned.1)
-    by_section place.Events comes planned = absurd cc
-    by_section place.Ended comes planned = absurd cc
+joins_at image s plan devices f id hw rows offset k key descriptor v1 k11 flash is comes planned =
+    by_section (λ (x : Section). is_in_order x (form.Device id k hw rows offset key descriptor v1 k11 flash) ≡ true → IsPlanned image x plan devices
+    → IsSized image plan devices × IsWindowed plan) never never (λ c was. (was.0, alone plan was.1 was.2)) never (λ c was. was)
+    (λ c was. (was.0, was.1)) never never s (rw is at comes) planned
 
 -- where the group's line and its window's line may come
 pub group_at : (s : Section) (f : Form) (id addr min max : ℕ) (key : List ℕ) → f ≡ form.Group id addr key min max → is_in_order s f ≡ true → s ≡ place.Group
-group_at s f id addr min max key is comes = by_section s (rw is at comes)
-  where
-    by_section : (s : Section) → is_in_order s (form.Group id addr key min max) ≡ true → s ≡ place.Group
-    by_section place.Header comes = absurd cc
-    by_section place.Image comes = absurd cc
-    by_section place.Group comes = refl
-    by_section place.Window comes = absurd cc
-    by_section place.Device comes = absurd cc
-    by_section place.Devices comes = absurd cc
-    by_section place.Events comes = absurd cc
-    by_section place.Ended comes = absurd cc
+group_at s f id addr min max key is comes =
+    by_section (λ (x : Section). is_in_order x (form.Group id addr key min max) ≡ true → x ≡ place.Group) never never (λ c. refl) never never never never never
+    s (rw is at comes)
 
 window_only : (test : Section → Bool) → test place.Header ≡ false → test place.Image ≡ false → test place.Group ≡ false → test place.Device ≡ false → test place.Devices ≡ false → test place.Events ≡ false → test place.Ended ≡ false
     → (s : Section) → test s ≡ true → s ≡ place.Window
-window_only test one two three four five six seven place.Header comes = absurd cc
-window_only test one two three four five six seven place.Image comes = absurd cc
-window_only test one two three four five six seven place.Group comes = absurd cc
-window_only test one two three four five six seven place.Window comes = refl
-window_only test one two three four five six seven place.Device comes = absurd cc
-window_only test one two three four five six seven place.Devices comes = absurd cc
-window_only test one two three four five six seven place.Events comes = absurd cc
-window_only test one two three four five six seven place.Ended comes = absurd cc
+window_only test one two three four five six seven =
+    by_section (λ (s : Section). test s ≡ true → s ≡ place.Window) (clash _ one) (clash _ two) (clash _ three) (λ comes. refl) (clash _ four)
+    (clash _ five) (clash _ six) (clash _ seven)
 
 pub window_c_at : (s : Section) (f : Form) (start timeout freq dr : ℕ) → f ≡ form.WindowC start timeout freq dr → is_in_order s f ≡ true → s ≡ place.Window
 window_c_at s f start timeout freq dr is comes = window_only (λ (x : Section). is_in_order x (form.WindowC start timeout freq dr)) refl refl refl refl refl refl refl s (rw is at comes)

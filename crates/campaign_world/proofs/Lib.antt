@@ -1,3 +1,4 @@
+pub mod Sections
 pub mod Zips
 pub mod LoggedItems
 pub mod Lateness

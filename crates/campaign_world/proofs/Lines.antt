@@ -23,6 +23,7 @@ use Rattle.campaign_world.specs.Report.{device_part, device_parts, report_with, 
 use Rattle.campaign_world.specs.HeldWorld.{HeldWorld, WorldStands, WorldBecomes, IsLineAnswer, world_of}
 use Rattle.campaign_world.specs.HeldLate.{DeviceRests}
 use Rattle.campaign_world.proofs.Zips.{zip_long}
+use Rattle.campaign_world.proofs.Sections.{by_section, never}
 
 -- ---- a line
 
@@ -132,24 +133,12 @@ part_told image text part new all id i stages ds stage d id_is staged there new_
 -- ---- whether the script has ended
 
 pub is_ended : (s : Section) → has_ended s ≡ true → s ≡ section.Ended
-is_ended section.Header is = absurd cc
-is_ended section.Image is = absurd cc
-is_ended section.Group is = absurd cc
-is_ended section.Window is = absurd cc
-is_ended section.Device is = absurd cc
-is_ended section.Devices is = absurd cc
-is_ended section.Events is = absurd cc
-is_ended section.Ended is = refl
+is_ended = by_section (λ (s : Section). has_ended s ≡ true → s ≡ section.Ended) never never never never never never never (λ is. refl)
 
 not_ended_at : (s : Section) (world : WorldState) → has_ended s ≡ false → end_result_at s world ≡ Err (record { line = world.lines + 1; why = why.Syntax })
-not_ended_at section.Header world is = refl
-not_ended_at section.Image world is = refl
-not_ended_at section.Group world is = refl
-not_ended_at section.Window world is = refl
-not_ended_at section.Device world is = refl
-not_ended_at section.Devices world is = refl
-not_ended_at section.Events world is = refl
-not_ended_at section.Ended world is = absurd cc
+not_ended_at s world =
+    by_section (λ (x : Section). has_ended x ≡ false → end_result_at x world ≡ Err (record { line = world.lines + 1; why = why.Syntax })) (λ is. refl) (λ is. refl)
+    (λ is. refl) (λ is. refl) (λ is. refl) (λ is. refl) (λ is. refl) (λ is. absurd cc) s
 
 -- a script that has not ended lacks its next line
 pub not_ended : (held : HeldWorld) (world : WorldState) → WorldStands held world → has_ended held.section ≡ false

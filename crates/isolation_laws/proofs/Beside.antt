@@ -42,6 +42,7 @@ use Rattle.isolation_laws.proofs.Rested.{Rested}
 use Rattle.pair_run.proofs.Unrefused.{side_after}
 use Rattle.isolation_laws.proofs.Whose.{IsOf, IsOfOther, IsLone, IsTimeless}
 use Rattle.isolation_laws.proofs.Close.{Close, Passed, IsCalm, near_takes, close_form, close_more, close_fine, close_reached, now_fine, close_now, close_passed, quiet_fine, passed_quiet, passed_more, passed_calm, event_begins}
+use Rattle.campaign_world.proofs.Sections.{by_section, never}
 
 pub record Beside (x : Campaign) (p q : PairState) : Type 0 where
   pub own : Close (side p x) (side q x)
@@ -320,34 +321,17 @@ begun_behind p (Across campaign.B by number device word) is none = inl (crossing
 begun_behind p Nobody is none = absurd cc
 
 no_more : (here : Section) (f : Form) → has_begun here ≡ true → is_event_or_end f ≡ false → is_in_order here f ≡ true → ⊥
-no_more section.Events f begun plan may = true≢false (sym may ∙ plan)
-no_more section.Ended f begun plan may = true≢false (sym may)
-no_more section.Header f begun plan may = true≢false (sym begun)
-no_more section.Image f begun plan may = true≢false (sym begun)
-no_more section.Group f begun plan may = true≢false (sym begun)
-no_more section.Window f begun plan may = true≢false (sym begun)
-no_more section.Device f begun plan may = true≢false (sym begun)
-no_more section.Devices f begun plan may = true≢false (sym begun)
+no_more here f =
+    by_section (λ (x : Section). has_begun x ≡ true → is_event_or_end f ≡ false → is_in_order x f ≡ true → ⊥) never never never never never never
+    (λ begun plan may. true≢false (sym may ∙ plan)) (λ begun plan. never) here
 
 never_unplanned : (here : Section) → has_begun here ≡ true → is_unplanned here ≡ true → ⊥
-never_unplanned section.Image begun is = true≢false (sym begun)
-never_unplanned section.Header begun is = true≢false (sym is)
-never_unplanned section.Group begun is = true≢false (sym is)
-never_unplanned section.Window begun is = true≢false (sym is)
-never_unplanned section.Device begun is = true≢false (sym is)
-never_unplanned section.Devices begun is = true≢false (sym is)
-never_unplanned section.Events begun is = true≢false (sym is)
-never_unplanned section.Ended begun is = true≢false (sym is)
+never_unplanned =
+    by_section (λ (here : Section). has_begun here ≡ true → is_unplanned here ≡ true → ⊥) never never never never never never (λ begun. never) (λ begun. never)
 
 never_planned : (here : Section) → has_begun here ≡ true → is_planned here ≡ true → ⊥
-never_planned section.Group begun is = true≢false (sym begun)
-never_planned section.Device begun is = true≢false (sym begun)
-never_planned section.Image begun is = true≢false (sym is)
-never_planned section.Header begun is = true≢false (sym is)
-never_planned section.Window begun is = true≢false (sym is)
-never_planned section.Devices begun is = true≢false (sym is)
-never_planned section.Events begun is = true≢false (sym is)
-never_planned section.Ended begun is = true≢false (sym is)
+never_planned =
+    by_section (λ (here : Section). has_begun here ≡ true → is_planned here ≡ true → ⊥) never never never never never never (λ begun. never) (λ begun. never)
 
 abbrev EitherBegun : (a b : Section) → Type 0
 EitherBegun a b = (has_begun a ≡ true) ⊎ (has_begun b ≡ true)

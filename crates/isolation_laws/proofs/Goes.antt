@@ -32,6 +32,7 @@ use Rattle.isolation_laws.proofs.Taken.{SaysFit, IsSentToAll, IsApartFrom, is_la
 use Rattle.isolation_laws.proofs.Indexes.{said_late, index_stays, then_fits}
 use Rattle.isolation_laws.proofs.Tame.{IsTame}
 use Rattle.isolation_laws.proofs.Rested.{Rested, said_rested}
+use Rattle.campaign_world.proofs.Sections.{by_section, never}
 
 -- ---- a script that is accepted
 
@@ -69,14 +70,7 @@ unfolding campaigns_of
 pair_read image_a image_b lines pair is = ended_well (read_pair_lines (Ok (first_pair image_a image_b)) lines) pair is
 
 ended_late : (here : Section) → has_ended here ≡ true → is_late here ≡ true
-ended_late section.Ended is = refl
-ended_late section.Header is = absurd cc
-ended_late section.Image is = absurd cc
-ended_late section.Group is = refl
-ended_late section.Window is = refl
-ended_late section.Device is = refl
-ended_late section.Devices is = refl
-ended_late section.Events is = refl
+ended_late = by_section (λ (here : Section). has_ended here ≡ true → is_late here ≡ true) never never never never never never never (λ is. refl)
 
 -- ---- one campaign's part of a line
 
@@ -118,24 +112,14 @@ abbrev Apart : PairState → Type 0
 Apart pair = is_late pair.b.section ≡ true → (is_late pair.a.section ≡ true) × (pair.a.server.plan.index ≡ pair.b.server.plan.index → ⊥)
 
 early_only : (here : Section) (form : Form) → is_late here ≡ false → is_early form ≡ false → is_in_order here form ≡ true → ⊥
-early_only section.Header form early late may = not_header form late may
-early_only section.Image form early late may = not_image form late may
-early_only section.Group form early late may = true≢false early
-early_only section.Window form early late may = true≢false early
-early_only section.Device form early late may = true≢false early
-early_only section.Devices form early late may = true≢false early
-early_only section.Events form early late may = true≢false early
-early_only section.Ended form early late may = true≢false early
+early_only here form =
+    by_section (λ (x : Section). is_late x ≡ false → is_early form ≡ false → is_in_order x form ≡ true → ⊥) (λ early late may. not_header form late may)
+    (λ early late may. not_image form late may) (λ early. absurd (true≢false early)) (λ early. absurd (true≢false early)) (λ early. absurd (true≢false early)) (λ early. absurd (true≢false early))
+    (λ early. absurd (true≢false early)) (λ early. absurd (true≢false early)) here
 
 events_late : (here : Section) → takes_events here ≡ true → is_late here ≡ true
-events_late section.Header takes = absurd cc
-events_late section.Image takes = absurd cc
-events_late section.Group takes = refl
-events_late section.Window takes = refl
-events_late section.Device takes = refl
-events_late section.Devices takes = refl
-events_late section.Events takes = refl
-events_late section.Ended takes = refl
+events_late =
+    by_section (λ (here : Section). takes_events here ≡ true → is_late here ≡ true) never never never never never (λ takes. refl) (λ takes. refl) never
 
 -- the line after which it has its index is that of its image
 grown_form : (w : WorldState) (form : Form) → form_cause w form ≡ None → is_late w.section ≡ false → is_late (after_form w form).section ≡ true

@@ -49,6 +49,7 @@ use Rattle.isolation_laws.proofs.Goes.{Goes, AllGo, all_go, pair_read, pair_firs
 use Rattle.isolation_laws.proofs.Indexes.{said_late}
 use Rattle.pair_run.proofs.Unrefused.{MayReach, said_fine, unrefused, after_is}
 use Rattle.isolation_laws.proofs.Taken.{is_late, Common, common_passed}
+use Rattle.campaign_world.proofs.Sections.{by_section, never}
 
 -- ---- what a line makes of the group of a plan
 
@@ -184,14 +185,8 @@ same_apart p q a b late k = record {
 }
 
 unplanned_early : (here : Section) → is_unplanned here ≡ true → is_late here ≡ false
-unplanned_early section.Image is = refl
-unplanned_early section.Header is = refl
-unplanned_early section.Group is = absurd cc
-unplanned_early section.Window is = absurd cc
-unplanned_early section.Device is = absurd cc
-unplanned_early section.Devices is = absurd cc
-unplanned_early section.Events is = absurd cc
-unplanned_early section.Ended is = absurd cc
+unplanned_early =
+    by_section (λ (here : Section). is_unplanned here ≡ true → is_late here ≡ false) (λ is. refl) (λ is. refl) never never never never never never
 
 not_none : {X : Type 0} (o : Option PlanGroup) (g : PlanGroup) → o ≡ None → o ≡ Some g → X
 not_none o g empty full = absurd (let both : None ≡ Some g = sym empty ∙ full in cc)

@@ -14,49 +14,29 @@ use Rattle.campaign_laws.proofs.HeadlineForms.{passes}
 use Rattle.campaign_laws.proofs.Indexed.{IsIndexed, said_indexed}
 use Rattle.isolation_laws.proofs.PairFields.{Has}
 use Rattle.isolation_laws.proofs.Taken.{SaysFit, is_late}
+use Rattle.campaign_world.proofs.Sections.{by_section, never}
 
 -- late is indexed
 pub late_indexed : (index : ℕ) (plan : Plan) (here : Section) → plan.index ≡ index → IsIndexed index here plan
-late_indexed index plan section.Header is = tt
-late_indexed index plan section.Image is = tt
-late_indexed index plan section.Group is = is
-late_indexed index plan section.Window is = is
-late_indexed index plan section.Device is = is
-late_indexed index plan section.Devices is = is
-late_indexed index plan section.Events is = is
-late_indexed index plan section.Ended is = is
+late_indexed index plan here is =
+    by_section (λ (x : Section). IsIndexed index x plan) tt tt is is is is is is here
 
 pub indexed_late : (index : ℕ) (plan : Plan) (here : Section) → is_late here ≡ true → IsIndexed index here plan → plan.index ≡ index
-indexed_late index plan section.Header late k = absurd (true≢false (sym late))
-indexed_late index plan section.Image late k = absurd (true≢false (sym late))
-indexed_late index plan section.Group late k = k
-indexed_late index plan section.Window late k = k
-indexed_late index plan section.Device late k = k
-indexed_late index plan section.Devices late k = k
-indexed_late index plan section.Events late k = k
-indexed_late index plan section.Ended late k = k
+indexed_late index plan =
+    by_section (λ (x : Section). is_late x ≡ true → IsIndexed index x plan → plan.index ≡ index) never never (λ late k. k) (λ late k. k) (λ late k. k)
+    (λ late k. k) (λ late k. k) (λ late k. k)
 
 -- ---- once late, always late
 
 at_header : (here : Section) → is_late here ≡ true → is_in_order here Header ≡ true → ⊥
-at_header section.Header late may = true≢false (sym late)
-at_header section.Image late may = true≢false (sym late)
-at_header section.Group late may = true≢false (sym may)
-at_header section.Window late may = true≢false (sym may)
-at_header section.Device late may = true≢false (sym may)
-at_header section.Devices late may = true≢false (sym may)
-at_header section.Events late may = true≢false (sym may)
-at_header section.Ended late may = true≢false (sym may)
+at_header =
+    by_section (λ (here : Section). is_late here ≡ true → is_in_order here Header ≡ true → ⊥) never never (λ late. never) (λ late. never) (λ late. never)
+    (λ late. never) (λ late. never) (λ late. never)
 
 at_image : (here : Section) (size parity index : ℕ) → is_late here ≡ true → is_in_order here (Image size parity index) ≡ true → ⊥
-at_image section.Header size parity index late may = true≢false (sym late)
-at_image section.Image size parity index late may = true≢false (sym late)
-at_image section.Group size parity index late may = true≢false (sym may)
-at_image section.Window size parity index late may = true≢false (sym may)
-at_image section.Device size parity index late may = true≢false (sym may)
-at_image section.Devices size parity index late may = true≢false (sym may)
-at_image section.Events size parity index late may = true≢false (sym may)
-at_image section.Ended size parity index late may = true≢false (sym may)
+at_image here size parity index =
+    by_section (λ (x : Section). is_late x ≡ true → is_in_order x (Image size parity index) ≡ true → ⊥) never never (λ late. never) (λ late. never)
+    (λ late. never) (λ late. never) (λ late. never) (λ late. never) here
 
 form_late : (w : WorldState) (form : Form) → form_cause w form ≡ None → is_late w.section ≡ true → is_late (after_form w form).section ≡ true
 unfolding after_form

@@ -29,6 +29,7 @@ use Rattle.pair_run.specs.PairLines.{line_to}
 use Rattle.pair_run.proofs.Accepts.{neither, cut_cause, may_cross_over}
 use Rattle.pair_run.proofs.Unrefused.{unrefused, MayReach, said_fine, few_of, cause_is, after_is, said_by, side_after}
 use Rattle.isolation_laws.proofs.PairFields.{Has, pair_form_has}
+use Rattle.campaign_world.proofs.Sections.{by_section, never}
 
 -- ---- what it says to its own campaign
 
@@ -150,14 +151,8 @@ is_late section.Image = false
 is_late here = true
 
 planned_late : (here : Section) → is_planned here ≡ true → is_late here ≡ true
-planned_late section.Group is = refl
-planned_late section.Device is = refl
-planned_late section.Header is = absurd cc
-planned_late section.Image is = absurd cc
-planned_late section.Window is = refl
-planned_late section.Devices is = refl
-planned_late section.Events is = refl
-planned_late section.Ended is = refl
+planned_late =
+    by_section (λ (here : Section). is_planned here ≡ true → is_late here ≡ true) never never (λ is. refl) never (λ is. refl) never never never
 
 abbrev ApartOf : Section → Plan → Target → Type 0
 ApartOf a plan (One campaign.B (form.Image frag_size parity index)) = (is_late a ≡ true) × (plan.index ≡ index → ⊥)

@@ -31,7 +31,7 @@ use Rattle.campaign_server.specs.Time.{time_answer}
 use Rattle.campaign_world.specs.declared.numbered.SentPayload.{SentPayload}
 use Rattle.campaign_world.specs.Honest.{is_for_others, are_for_others}
 use Rattle.campaign_laws.proofs.HeadlineCommands.{Cut, cut_of, fragment_command, IsNumber, IsCut, IsGood, fragment_good, status_good, good_read}
-use Rattle.campaign_laws.proofs.HeadlineEnds.{IsServerOf}
+use Rattle.campaign_laws.proofs.HeadlineEnds.{IsServerOf, next_by, all_by}
 use Rattle.campaign_laws.proofs.Devices.{version_asked, image_asked, reboot_asked}
 use Rattle.campaign_laws.proofs.Keyed.{time_port}
 use Rattle.isolation_laws.proofs.Resting.{IsSoft, far_soft, one_soft}
@@ -44,37 +44,17 @@ IsToAll image cut down =
     ((n : ℕ) × IsNumber image cut.size n × (down.command ≡ fragment_command image cut n))
     ⊎ ((all : Bool) × (down.command ≡ Cast (FragSessionStatusReq cut.index all)))
 
-counted_by : (image : List ℕ) (cut : Cut) (b : Bool) (down : DownlinkCommand) → IsToAll image cut down
-    → IfSome (result_ok (cond {A = Result DownlinkCommand Spent} b (Err Counts) (Ok down))) (IsToAll image cut)
-counted_by image cut true down k = tt
-counted_by image cut false down k = k
-
-next_by : (image : List ℕ) (cut : Cut) (parity next count : ℕ) (group : Option PlanGroup) (b : Bool)
-    → nat_lt (nb_frag_of (length image) cut.size + parity) next ≡ b → 1 ≤ next → parity ≤ 512
-    → IfSome (result_ok (cond {A = Result DownlinkCommand Spent} b (Err Fragments)
-    (cond {A = Result DownlinkCommand Spent} (has_no_count group count) (Err Counts)
-    (Ok (record { to = receivers group count; command = fragment_command image cut next })))))
-    (IsToAll image cut)
-next_by image cut parity next count group true is from few = tt
-next_by image cut parity next count group false is from few =
-    let last = ltb-false _ _ is in
-    counted_by image cut (has_no_count group count) _ (inl (next, (from, omega (arith, last, few)), refl))
-
 pub fragment_to_all : (image : List ℕ) (s : ServerState) → IsServerOf image s
     → IfSome (result_ok (next_fragment s)) (IsToAll image (cut_of s.plan))
 unfolding next_fragment
 fragment_to_all image s k =
     subst (λ (i : List ℕ). IfSome (result_ok (next_fragment s)) (IsToAll i (cut_of s.plan))) k.image_is
-    (next_by s.image (cut_of s.plan) s.plan.parity s.next s.count s.plan.group _ refl k.next k.few)
-
-all_by : (image : List ℕ) (cut : Cut) (b : Bool) (down : DownlinkCommand) → IsToAll image cut down
-    → IfSome (cond b None (Some down)) (IsToAll image cut)
-all_by image cut true down k = tt
-all_by image cut false down k = k
+    (next_by (IsToAll s.image (cut_of s.plan)) s.image (cut_of s.plan) s.plan.parity s.next s.count s.plan.group _ refl k.next k.few
+    (λ fine. inl (s.next, fine, refl)))
 
 pub status_to_each : (image : List ℕ) (s : ServerState) → IfSome (status_to_all s) (IsToAll image (cut_of s.plan))
 unfolding status_to_all
-status_to_each image s = all_by image (cut_of s.plan) (has_no_count s.plan.group s.count) _ (inr (false, refl))
+status_to_each image s = all_by (IsToAll image (cut_of s.plan)) (has_no_count s.plan.group s.count) _ (inr (false, refl))
 
 -- ---- is read as itself
 

@@ -14,6 +14,7 @@ use Rattle.campaign_world.specs.Script.{after_line}
 use Rattle.campaign_world.specs.HeldWorld.{HeldWorld, DevicesRest, WorldBecomes, KeepsEnds}
 use Rattle.pair_run.specs.Sides.{is_quiet}
 use Rattle.pair_run.specs.PairMaking.{reached_by}
+use Rattle.campaign_world.proofs.Sections.{by_section, never}
 
 -- nothing happened
 pub keeps_same : (held : HeldWorld) → KeepsEnds held held
@@ -47,11 +48,4 @@ reached_is device word found sent is = rw is refl
 
 -- where the end has come, events have
 pub ended_begun : (s : Section) → has_ended s ≡ true → has_begun s ≡ true
-ended_begun section.Header is = absurd cc
-ended_begun section.Image is = absurd cc
-ended_begun section.Group is = absurd cc
-ended_begun section.Window is = absurd cc
-ended_begun section.Device is = absurd cc
-ended_begun section.Devices is = absurd cc
-ended_begun section.Events is = absurd cc
-ended_begun section.Ended is = refl
+ended_begun = by_section (λ (s : Section). has_ended s ≡ true → has_begun s ≡ true) never never never never never never never (λ is. refl)
