@@ -1,11 +1,9 @@
 -- In an honest campaign a frame in the air is heard as its payload is.
-use Rattle.std.proofs.Common.{◌≡◌, ◌⊎◌, inl, inr, ℕ, ◌+◌, ◌-◌, ◌^◌, ◌<◌, ◌≤◌, ◌&&◌, ◌||◌, ◌==◌, not, nat_lt, nat_le, Bool, true, false, cond, List, [], ◌∷◌, length, All, Option, None, Some, IfSome, is_some, is_ok, Result, Ok, Err, refl, sym, ap, ◌∙◌, subst, arith, true≢false}
-use Rattle.std.proofs.lemmas.Bool.{eq-eqb, lt-ltb, le-ltb, cases_lt}
+use Rattle.std.proofs.Common.{◌≡◌, inl, inr, ℕ, ◌+◌, ◌^◌, ◌<◌, ◌≤◌, ◌&&◌, not, Bool, true, false, cond, List, length, All, Option, None, Some, IfSome, refl, sym, ap, ◌∙◌, subst, arith, true≢false}
+use Rattle.std.proofs.lemmas.Bool.{eq-eqb, lt-ltb}
 use Rattle.wire_base.specs.Numbered.{numbered}
 use Rattle.wire_base.specs.Payload.{max_payload}
 use Rattle.wire_base.specs.declared.refusal.Direction.TheVariants.{Down as Downwards}
-use Rattle.mc_frames.specs.declared.fault.FrameFault.{FrameFault}
-use Rattle.mc_frames.specs.Opening.{fault_without_group}
 use Rattle.mc_group.specs.declared.group.Group.{Group}
 use Rattle.mc_group.specs.Groups.{group_at, is_for}
 use Rattle.package_grammar.specs.declared.command.Command.{Command}
@@ -15,10 +13,9 @@ use Rattle.package_grammar.specs.declared.downlink.Downlink.{Downlink}
 use Rattle.package_grammar.specs.Grammar.{canonical}
 use Rattle.package_grammar.proofs.Written.{message_of}
 use Rattle.device_core.specs.declared.class_session.ClassSession.{ClassSession}
-use Rattle.device_core.specs.declared.delivered.Delivered.{Delivered}
 use Rattle.device_core.specs.declared.delivered.Delivered.TheVariants.{Deaf}
-use Rattle.device_core.specs.Device.{DeviceState, with_counts, after_deaf}
-use Rattle.device_core.specs.ClassSessions.{hears_group, hears, is_open}
+use Rattle.device_core.specs.Device.{DeviceState}
+use Rattle.device_core.specs.ClassSessions.{hears_group, hears}
 use Rattle.device_core.specs.Deliver.{Outcome, heard_delivery, delivery}
 use Rattle.device_core.specs.Events.{Event, Receives, HearsBytes, event_step}
 use Rattle.device_core.specs.Firmware.{after_due_reboot}
@@ -26,26 +23,24 @@ use Rattle.device_core.specs.Radio.{heard_group, brought, radio}
 use Rattle.device_core.proofs.Deliveries.{counted}
 use Rattle.device_core.proofs.Radio.{frame_delivered}
 use Rattle.campaign_server.specs.declared.plan.PlanGroup.{PlanGroup}
-use Rattle.campaign_server.specs.Server.{ServerState, DownlinkCommand, port_of, downlink_of}
-use Rattle.campaign_server.specs.Framing.{has_frame, group_frame, frame_for}
+use Rattle.campaign_server.specs.Server.{DownlinkCommand, port_of, downlink_of}
+use Rattle.campaign_server.specs.Framing.{group_frame}
 use Rattle.script_lines.specs.declared.forms.Form.{Form}
 use Rattle.script_lines.specs.declared.forms.Form.TheVariants.{Header, Image, Group as GroupLine, WindowC, WindowB, Device, At, Wake, Migrate, Power, Ask, Frag, Status, Down, Raw, Air, RawAir, Up, End}
 use Rattle.script_lines.specs.Ranges.{in_range}
-use Rattle.script_lines.specs.Forms.{form_of}
 use Rattle.report_lines.specs.declared.faults.LineWhy.{LineWhy}
 use Rattle.report_lines.specs.declared.faults.LineWhy.TheVariants as why
 use Rattle.campaign_world.specs.declared.section.Section.{Section}
-use Rattle.campaign_world.specs.declared.section.Section.TheVariants as section
 use Rattle.campaign_world.specs.declared.numbered.SentPayload.{SentPayload}
-use Rattle.campaign_world.specs.World.{WorldState, first_world}
+use Rattle.campaign_world.specs.World.{WorldState}
 use Rattle.campaign_world.specs.Honest.{is_raw}
-use Rattle.campaign_world.specs.Causes.{is_in_order, fits_script, names_device, may_reach, is_to_group, goes_out, is_available, is_not_past, fits_payload, has_more, form_cause}
-use Rattle.campaign_world.specs.Making.{with_device, reception, sent_frame, hearing, with_event, with_event_of, at_events, after_form}
+use Rattle.campaign_world.specs.Causes.{is_in_order, names_device, may_reach, is_to_group, goes_out, form_cause}
+use Rattle.campaign_world.specs.Making.{with_device, reception, sent_frame, hearing, with_event, at_events, after_form}
 use Rattle.campaign_laws.proofs.HeadlineCommands.{Cut, cut_of, IsGood, IsSentOf, IsCut, sync_high, fragment_good, status_good}
-use Rattle.campaign_laws.proofs.HeadlineForms.{Passes, passes, number_there, device_there, all_numbered, is_strange, late_cut}
+use Rattle.campaign_laws.proofs.HeadlineForms.{passes, number_there, device_there, all_numbered, is_strange, late_cut}
 use Rattle.campaign_laws.proofs.HeadlineWorlds.{IsPayloadOf, Keeps}
 use Rattle.campaign_laws.proofs.OwnGroups.{IsOwn, HasOwn, held_group, reboot_groups, same_by}
-use Rattle.campaign_laws.proofs.Keyed.{FitsGroup, IsDue, IsDueOf, IsFramed, IsKept, IsKeyed}
+use Rattle.campaign_laws.proofs.Keyed.{FitsGroup, IsDue, IsDueOf, IsKept}
 use Rattle.campaign_laws.proofs.KeyedLines.{Keyed}
 use Rattle.campaign_world.proofs.Sections.{by_section}
 

@@ -8,7 +8,6 @@ use Rattle.frag_session.specs.Setup.{Room, rows_of}
 use Rattle.frag_session.specs.Session.{Session, new_session, after_setup, followed, after_fragment}
 use Rattle.frag_session.specs.HeldHistory.{IsSetUp}
 use Rattle.frag_encoder.specs.Encoding.{nb_frag_of, data_of}
-use Rattle.cast_wire.specs.declared.cmd.Cmd.TheVariants.{DataFragment}
 use Rattle.sync_wire.specs.declared.cmd.Cmd.TheVariants.{AppTimeReq, AppTimeAns, DevVersionReq}
 use Rattle.clock_sync.specs.Clock.{correction_of, is_answer_needed}
 use Rattle.package_grammar.specs.declared.command.Command.{Command}

@@ -10,10 +10,9 @@ use Rattle.wire_base.specs.declared.refusal.Direction.TheVariants as direction
 use Rattle.device_core.specs.Device.{DeviceState}
 use Rattle.frag_model.specs.Limits.{max_pieces}
 use Rattle.script_lines.specs.Limits.{max_rows, max_devices}
-use Rattle.device_core.specs.Deliver.{delivery, waking}
+use Rattle.device_core.specs.Deliver.{delivery}
 use Rattle.device_core.specs.Firmware.{after_migration}
 use Rattle.device_core.specs.Events.{Event, Wakes, Receives, Migrates, after_event}
-use Rattle.campaign_server.specs.declared.plan.PlanGroup.{PlanGroup}
 use Rattle.campaign_server.specs.Plan.{Plan}
 use Rattle.campaign_server.specs.Server.{ServerState, DownlinkCommand, ledger, downlink_of}
 use Rattle.wire_base.specs.Numbered.{numbered}

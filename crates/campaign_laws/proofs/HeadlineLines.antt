@@ -23,14 +23,13 @@ use Rattle.device_core.specs.Device.{DeviceState, first_device}
 use Rattle.device_core.specs.ClassSessions.{hears}
 use Rattle.campaign_server.specs.Server.{DownlinkCommand, downlink_of}
 use Rattle.wire_base.specs.Numbered.{numbered}
-use Rattle.script_lines.specs.declared.forms.Form.TheVariants.{Down}
 use Rattle.campaign_world.specs.declared.section.Section.{Section}
 use Rattle.campaign_world.specs.declared.section.Section.TheVariants as section
 use Rattle.report_lines.specs.declared.faults.LineWhy.{LineWhy}
 use Rattle.report_lines.specs.declared.faults.LineFault.{LineFault}
 use Rattle.campaign_world.specs.declared.numbered.SentPayload.{SentPayload}
 use Rattle.campaign_world.specs.World.{WorldState, first_world}
-use Rattle.campaign_world.specs.Said.{Said, Own, Line}
+use Rattle.campaign_world.specs.Said.{Said, Line}
 use Rattle.campaign_world.specs.Causes.{line_cause, cause_of}
 use Rattle.campaign_world.specs.Making.{config_of, after_said}
 use Rattle.campaign_world.specs.Script.{one_line_more, after_line, line_result, read_line, read_lines, end_result_at, end_result, campaign_of}
@@ -42,7 +41,7 @@ use Rattle.device_core.proofs.Stays.{Moves, Stays}
 use Rattle.campaign_laws.proofs.OwnSession.{at_own, none_at}
 use Rattle.campaign_laws.proofs.HeadlinePayloads.{comes_to, way_of}
 use Rattle.campaign_laws.proofs.HeadlineEnds.{IsSetFor, IsDeviceFor}
-use Rattle.campaign_laws.proofs.HeadlineWorlds.{Keeps, first_keeps, HasStayed, IsQuiet, Turns, IsReached, turn_keeps}
+use Rattle.campaign_laws.proofs.HeadlineWorlds.{Keeps, HasStayed, IsQuiet, Turns, IsReached}
 use Rattle.campaign_laws.specs.Fields.{AllFit}
 use Rattle.campaign_laws.proofs.HonestLines.{heard_said, Says, says_down, Stands, first_stands, goes_on_by}
 use Rattle.campaign_world.proofs.Sections.{by_section}

@@ -1,5 +1,5 @@
 -- A device to which the setup was brought, and that takes its descriptor, has its session.
-use Rattle.std.proofs.Common.{◌≡◌, ℕ, zero, suc, ◌*◌, ◌^◌, ◌<◌, ◌≤◌, ◌+◌, Bool, true, false, nat_le, List, length, min, drop, All, Option, None, Some, is_some, Result, Ok, Err, refl, sym, ap, ◌∙◌, subst, arith, ne_eqb, le-ltb, length-drop, mul-le-mul}
+use Rattle.std.proofs.Common.{◌≡◌, ℕ, zero, suc, ◌*◌, ◌^◌, ◌<◌, ◌≤◌, ◌+◌, Bool, true, false, nat_le, List, length, min, drop, All, Option, None, Some, is_some, Ok, refl, ap, ◌∙◌, subst, arith, ne_eqb, le-ltb, length-drop, mul-le-mul}
 use Rattle.std.proofs.lemmas.Bool.{le-leb}
 use Rattle.std.proofs.lemmas.Bool.Decides.{nat_tests}
 use Rattle.std.proofs.lemmas.Grind.{div_ceil_times}
@@ -15,14 +15,11 @@ use Rattle.device_core.specs.declared.config.DeviceConfig.{DeviceConfig}
 use Rattle.device_core.specs.Device.{limits_of, room_of, max_area, max_rows, row_words, row_bytes}
 use Rattle.frag_model.specs.Limits.{max_frag_size, max_pieces}
 use Rattle.row_elimination.specs.HeldTable.{max_line_words}
-use Rattle.campaign_world.specs.declared.section.Section.{Section}
-use Rattle.campaign_world.specs.declared.section.Section.TheVariants as section
-use Rattle.report_lines.specs.declared.faults.LineFault.{LineFault}
 use Rattle.campaign_world.specs.Making.{flash_span, span_of}
 use Rattle.campaign_world.specs.World.{WorldState, first_world}
 use Rattle.campaign_world.specs.Said.{Line}
 use Rattle.device_core.specs.SessionTable.{session_at}
-use Rattle.campaign_world.specs.Script.{read_lines, end_result_at, end_result, campaign_of}
+use Rattle.campaign_world.specs.Script.{read_lines, campaign_of}
 use Rattle.campaign_world.specs.Honest.{AreHonest}
 use Rattle.campaign_laws.specs.Fields.{AllFit}
 use Rattle.campaign_laws.specs.Headline.{Brings}

@@ -1,5 +1,5 @@
 -- What some lines let happen at a device, worked out.
-use Rattle.std.proofs.Common.{◌≡◌, ℕ, List, [], ◌∷◌, ◌++◌, map, Option, Ok, codes, refl}
+use Rattle.std.proofs.Common.{◌≡◌, List, [], ◌∷◌, ◌++◌, map, Option, Ok, codes, refl}
 use Rattle.hex.specs.Hex.{decode_pairs}
 use Rattle.package_grammar.specs.declared.downlink.Downlink.{Downlink}
 use Rattle.script_lines.specs.Lines.{words_of, word}

@@ -1,5 +1,5 @@
 -- After its image's line a campaign has the index that the line says.
-use Rattle.std.proofs.Common.{◌≡◌, ℕ, ◌+◌, Bool, true, false, Option, None, Some, Ok, Err, refl, ap, ◌∙◌, sym, true≢false, subst}
+use Rattle.std.proofs.Common.{◌≡◌, ℕ, ◌+◌, true, false, None, Some, Ok, refl, ap, ◌∙◌}
 use Rattle.std.specs.Result.{result_ok}
 use Rattle.wire_base.specs.Numbered.{numbered}
 use Rattle.device_core.specs.Events.{Receives}

@@ -1,8 +1,8 @@
 -- A campaign whose lines have been read has the index that its image's line says.
-use Rattle.std.proofs.Common.{◌≡◌, ℕ, List, [], ◌∷◌, Option, None, Ok, Err, subst}
+use Rattle.std.proofs.Common.{◌≡◌, ℕ, List, [], ◌∷◌, None, Ok, Err, subst}
 use Rattle.campaign_world.specs.declared.section.Section.{Section}
 use Rattle.campaign_world.specs.World.{WorldState, first_world}
-use Rattle.campaign_world.specs.Said.{Said, Line}
+use Rattle.campaign_world.specs.Said.{Line}
 use Rattle.campaign_world.specs.Causes.{line_cause}
 use Rattle.campaign_world.specs.Script.{after_line, read_lines, campaign_of}
 use Rattle.campaign_laws.specs.Fields.{LineFits, AllFit}

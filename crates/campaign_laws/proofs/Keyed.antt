@@ -1,17 +1,16 @@
 -- What holds of each honest campaign's keys and counts: a device has no group but the plan's, with its key, and each payload
 -- to the group has a count of its own.
-use Rattle.std.proofs.Common.{◌≡◌, ◌⊎◌, inl, inr, ℕ, ◌+◌, ◌-◌, ◌^◌, ◌/◌, ◌<◌, ◌≤◌, ◌&&◌, ◌==◌, nat_lt, nat_le, Bool, true, false, cond, List, [], ◌∷◌, ◌++◌, length, Option, None, Some, IfSome, is_ok, is_some, Result, Ok, Err, refl, sym, ap, ◌∙◌, subst, lit≤, arith, eqb-true}
+use Rattle.std.proofs.Common.{◌≡◌, ◌⊎◌, inl, inr, ℕ, ◌+◌, ◌^◌, ◌/◌, ◌<◌, ◌≤◌, ◌&&◌, ◌==◌, nat_lt, nat_le, Bool, true, false, cond, List, [], ◌∷◌, length, Option, None, Some, IfSome, is_ok, is_some, Result, Ok, Err, refl, sym, ap, ◌∙◌, subst, lit≤, arith, eqb-true}
 use Rattle.std.proofs.lemmas.Bool.{and_parts, eqb-false, ltb-true, leb-true}
-use Rattle.std.specs.List.{AllByRecursion, slice_set}
+use Rattle.std.specs.List.{AllByRecursion}
 use Rattle.std.specs.Result.{result_ok}
-use Rattle.wire_base.specs.declared.refusal.Direction.TheVariants.{Down, Up as Upwards}
+use Rattle.wire_base.specs.declared.refusal.Direction.TheVariants.{Down}
 use Rattle.wire_base.specs.Numbered.{numbered}
 use Rattle.aes_block.specs.Cipher.{IsBlock}
-use Rattle.mc_keys.specs.Keys.{mc_ke_key, mc_key}
+use Rattle.mc_keys.specs.Keys.{mc_ke_key}
 use Rattle.mc_keys.specs.Roots.{root_of}
-use Rattle.mc_keys.specs.declared.root_kind.RootKind.{RootKind}
 use Rattle.clock_sync.specs.Clock.{correction_of, is_answer_needed}
-use Rattle.cast_wire.specs.declared.cmd.Cmd.TheVariants.{FragSessionStatusReq, FragSessionSetupReq, DataFragment, McGroupSetupReq}
+use Rattle.cast_wire.specs.declared.cmd.Cmd.TheVariants.{FragSessionStatusReq, McGroupSetupReq}
 use Rattle.sync_wire.specs.declared.cmd.Cmd.{Cmd as SyncCmd}
 use Rattle.sync_wire.specs.declared.cmd.Cmd.TheVariants as s
 use Rattle.package_grammar.specs.declared.command.Command.{Command}
@@ -20,7 +19,7 @@ use Rattle.package_grammar.specs.declared.downlink.To.{To}
 use Rattle.package_grammar.specs.declared.downlink.To.TheVariants as to
 use Rattle.package_grammar.specs.declared.downlink.Downlink.{Downlink}
 use Rattle.package_grammar.specs.Grammar.{canonical}
-use Rattle.package_grammar.specs.Reading.{Reading, reading_of}
+use Rattle.package_grammar.specs.Reading.{reading_of}
 use Rattle.mc_group.specs.Groups.{group_at}
 use Rattle.mc_group.specs.declared.group.Group.{Group}
 use Rattle.device_core.specs.declared.config.DeviceConfig.{DeviceConfig}
@@ -46,7 +45,7 @@ use Rattle.campaign_world.specs.declared.numbered.SentPayload.{SentPayload}
 use Rattle.campaign_world.specs.declared.section.Section.{Section}
 use Rattle.campaign_world.specs.Causes.{may_reach}
 use Rattle.campaign_laws.proofs.HeadlineCommands.{sync_high}
-use Rattle.campaign_laws.proofs.OwnGroups.{IsOwn, HasOwn, IsMildReading, held_group, away_mild, single_mild}
+use Rattle.campaign_laws.proofs.OwnGroups.{HasOwn, IsMildReading, away_mild, single_mild}
 use Rattle.campaign_laws.proofs.PlanGroups.{is_planning}
 use Rattle.campaign_laws.proofs.Unwrapping.{unwraps, wrapped_long}
 

@@ -1,5 +1,5 @@
 -- The keys and counts of a campaign hold after each form.
-use Rattle.std.proofs.Common.{◌≡◌, ◌⊎◌, inl, inr, ℕ, zero, suc, ◌+◌, ◌-◌, ◌^◌, ◌<◌, ◌≤◌, ◌&&◌, ◌==◌, nat_lt, nat_le, Bool, true, false, cond, List, [], ◌∷◌, ◌++◌, length, slice_get, replicate, Option, None, Some, IfSome, Result, Ok, Err, refl, sym, ap, ◌∙◌, subst, arith, true≢false}
+use Rattle.std.proofs.Common.{◌≡◌, inl, inr, ℕ, zero, suc, ◌+◌, ◌-◌, ◌^◌, ◌<◌, ◌≤◌, ◌&&◌, ◌==◌, nat_lt, nat_le, Bool, true, false, cond, List, [], ◌∷◌, ◌++◌, length, slice_get, replicate, Option, None, Some, IfSome, Ok, Err, refl, sym, ap, ◌∙◌, subst, arith, true≢false}
 use Rattle.std.proofs.lemmas.Bool.{and_parts, ltb-true, leb-true}
 use Rattle.std.proofs.lemmas.List.{length-set, length_push}
 use Rattle.std.specs.List.{AllByRecursion, slice_set}
@@ -11,11 +11,8 @@ use Rattle.package_grammar.specs.Reading.{Reading, reading_of}
 use Rattle.mc_group.specs.Groups.{group_at}
 use Rattle.device_core.specs.declared.config.DeviceConfig.{DeviceConfig}
 use Rattle.device_core.specs.Device.{DeviceState, first_device}
-use Rattle.device_core.specs.Deliver.{delivery, waking}
-use Rattle.device_core.specs.Firmware.{after_migration}
 use Rattle.device_core.specs.Events.{Event, Wakes, Receives, Migrates, event_step, after_event}
 use Rattle.device_core.proofs.HeardSessions.{event_config}
-use Rattle.campaign_server.specs.declared.plan.Kind.{Kind}
 use Rattle.campaign_server.specs.declared.plan.Kind.TheVariants as kind
 use Rattle.campaign_server.specs.declared.plan.PlanDevice.{PlanDevice}
 use Rattle.campaign_server.specs.declared.plan.PlanGroup.{PlanGroup}
@@ -43,7 +40,7 @@ use Rattle.campaign_laws.proofs.PlanGroups.{is_planning, plan_at, fragment_plan,
 use Rattle.campaign_laws.specs.Fields.{HasFields, LineFits}
 use Rattle.campaign_laws.specs.Headline.{HasNoOther}
 use Rattle.campaign_laws.proofs.Crossing.{crossing_groups}
-use Rattle.campaign_laws.proofs.OwnGroups.{IsOwn, HasOwn, delivery_own, waking_own, migration_own}
+use Rattle.campaign_laws.proofs.OwnGroups.{HasOwn, delivery_own, waking_own, migration_own}
 use Rattle.campaign_laws.proofs.Keyed.{FitsGroup, IsFit, IsPlanned, IsKept, IsNext, IsKeyed, next_later, first_next, fragment_next, status_next, answers_next, asked_kept, fragment_kept, status_kept, time_kept}
 
 -- a device with a number that there is

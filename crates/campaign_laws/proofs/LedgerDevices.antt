@@ -29,7 +29,7 @@ use Rattle.device_core.specs.declared.config.DeviceConfig.{DeviceConfig}
 use Rattle.device_core.specs.declared.arrival.Arrival.{Arrival}
 use Rattle.device_core.specs.declared.uplink.Uplink.{Uplink}
 use Rattle.device_core.specs.declared.uplink.Answer.{Answer}
-use Rattle.device_core.specs.SessionTable.{SessionTable, no_sessions, session_at, with_session}
+use Rattle.device_core.specs.SessionTable.{SessionTable, session_at, with_session}
 use Rattle.device_core.specs.Device.{DeviceState, first_device, limits_of, room_of, with_counts, after_deaf, after_refused, after_full, after_dropped}
 use Rattle.device_core.specs.declared.counts.Counts.{Counts}
 use Rattle.device_core.specs.declared.delivered.Delivered.{Delivered}

@@ -14,7 +14,6 @@ use Rattle.device_core.specs.Events.{Event, Receives, event_step}
 use Rattle.campaign_server.specs.declared.stage.Stage.{Stage}
 use Rattle.campaign_server.specs.declared.stage.Stage.TheVariants.{At}
 use Rattle.campaign_server.specs.declared.stage.Request.TheVariants as request
-use Rattle.package_grammar.specs.declared.downlink.Downlink.{Downlink}
 use Rattle.campaign_server.specs.Server.{ServerState, DownlinkCommand, ledger}
 use Rattle.wire_base.specs.Numbered.{numbered}
 use Rattle.campaign_server.specs.Asking.{request_of, by_unicast}
@@ -24,16 +23,14 @@ use Rattle.campaign_server.specs.Time.{time_answer}
 use Rattle.campaign_server.specs.Uplinks.{with_answers, read_uplink, uplink_step}
 use Rattle.script_lines.specs.declared.forms.Form.{Form}
 use Rattle.script_lines.specs.declared.forms.Form.TheVariants.{Header, Image, Group, WindowC, WindowB, Device, At as AtTime, Wake, Migrate, Power, Ask, Frag, Status, Down, Raw, Air, RawAir, Up, End}
-use Rattle.campaign_world.specs.declared.numbered.SentPayload.{SentPayload}
 use Rattle.campaign_world.specs.declared.numbered.NumberedUplink.{NumberedUplink}
 use Rattle.campaign_world.specs.World.{WorldState, first_world}
 use Rattle.campaign_world.specs.Said.{Said, Own, Elsewhere, Reached, Line}
-use Rattle.campaign_world.specs.Causes.{is_in_order, form_cause, said_cause, line_cause}
+use Rattle.campaign_world.specs.Causes.{form_cause, said_cause, line_cause}
 use Rattle.campaign_laws.specs.Ledger.{Runs}
 use Rattle.campaign_world.specs.Making.{with_sent, made_by, with_device, event_of, after_event_at, with_event_of, after_answer, after_up, at_events, after_form, after_said}
 use Rattle.campaign_world.specs.Script.{one_line_more, after_line, read_lines}
 use Rattle.campaign_server.proofs.LineItems.{numbered_more, numbered_there}
-use Rattle.campaign_laws.proofs.HeadlineForms.{passes}
 use Rattle.campaign_laws.proofs.Independence.{read_first, line_fine}
 use Rattle.campaign_laws.proofs.Ledger.{MadeTruly, uplinks_are_true}
 use Rattle.campaign_laws.specs.Once.{rank, MovesOnce}

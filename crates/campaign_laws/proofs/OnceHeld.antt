@@ -1,5 +1,5 @@
 -- Each uplink that a world holds is of one command, so once it has moved a stage it moves none.
-use Rattle.std.proofs.Common.{◌≡◌, ◌≢◌, ◌∙◌, ℕ, [], ◌∷◌, Option, None, Some, Ok, IfSome, option_map, refl, sym, ap, subst}
+use Rattle.std.proofs.Common.{◌≡◌, ◌≢◌, ◌∙◌, ℕ, [], ◌∷◌, Option, None, Some, Ok, IfSome, option_map, refl, ap, subst}
 use Rattle.wire_base.specs.declared.refusal.Direction.TheVariants.{Up as Upwards}
 use Rattle.wire_base.specs.Numbered.{numbered}
 use Rattle.package_grammar.specs.Grammar.{canonical}

@@ -1,12 +1,9 @@
 -- While the server has not asked a device for more than its version, the device runs no file.
-use Rattle.std.proofs.Common.{◌≡◌, inl, inr, ⊎_elim, ℕ, ◌+◌, ◌-◌, ◌/◌, ◌^◌, ◌<◌, ◌≤◌, All, ◌==◌, Bool, true, false, cond, List, [], ◌∷◌, ◌++◌, slice_get, zero, suc, Option, None, Some, IfSome, is_some, is_ok, Result, Ok, Err, refl, sym, ap, ◌∙◌, subst, arith, true≢false}
+use Rattle.std.proofs.Common.{◌≡◌, inl, inr, ⊎_elim, ℕ, ◌+◌, ◌-◌, ◌^◌, ◌<◌, ◌≤◌, All, ◌==◌, Bool, true, false, cond, List, [], ◌∷◌, ◌++◌, slice_get, zero, suc, Option, None, Some, IfSome, is_some, is_ok, Result, Ok, Err, refl, sym, ap, ◌∙◌, subst, arith, true≢false}
 use Rattle.std.specs.List.{AllByRecursion}
 use Rattle.std.specs.Result.{result_ok}
 use Rattle.wire_base.specs.declared.refusal.Direction.TheVariants.{Up as Upwards}
-use Rattle.clock_sync.specs.Clock.{correction_of, is_answer_needed}
-use Rattle.sync_wire.specs.declared.cmd.Cmd.TheVariants as s
 use Rattle.package_grammar.specs.declared.command.Command.{Command}
-use Rattle.package_grammar.specs.declared.command.Command.TheVariants.{Sync, Cast}
 use Rattle.package_grammar.specs.Reading.{Reading, reading_of}
 use Rattle.device_core.specs.Device.{DeviceState}
 use Rattle.device_core.specs.Deliver.{delivery, waking}
@@ -25,7 +22,7 @@ use Rattle.campaign_server.specs.Answers.{stage_after_all}
 use Rattle.campaign_server.specs.declared.fragments.Spent.{Spent}
 use Rattle.campaign_server.specs.declared.fragments.Spent.TheVariants.{Fragments, Counts}
 use Rattle.campaign_server.specs.Fragments.{next_fragment, after_fragment, status_to_all, after_status_to_all}
-use Rattle.campaign_server.specs.Time.{time_answer_to, first_answer, time_answer}
+use Rattle.campaign_server.specs.Time.{time_answer}
 use Rattle.campaign_server.specs.Uplinks.{with_answers, read_uplink, uplink_step}
 use Rattle.script_lines.specs.declared.forms.Form.{Form}
 use Rattle.script_lines.specs.declared.forms.Form.TheVariants.{Header, Image, Group, WindowC, WindowB, Device, At as AtTime, Wake, Migrate, Power, Ask, Frag, Status, Down, Raw, Air, RawAir, Up, End}
@@ -36,7 +33,7 @@ use Rattle.campaign_world.specs.declared.numbered.NumberedUplink.{NumberedUplink
 use Rattle.campaign_world.specs.World.{WorldState, first_world}
 use Rattle.campaign_world.specs.Said.{Said, Own, Elsewhere, Reached, Line}
 use Rattle.campaign_world.specs.Honest.{has_raw, AreHonest}
-use Rattle.campaign_world.specs.Causes.{is_event_or_end, is_in_order, may_reach, form_cause, said_cause, line_cause, cause_of}
+use Rattle.campaign_world.specs.Causes.{may_reach, form_cause, said_cause, line_cause, cause_of}
 use Rattle.campaign_world.specs.Making.{with_plan, with_sent, with_device, after_event_at, after_answer, after_up, at_events, device_of, after_form, after_said}
 use Rattle.campaign_world.specs.Script.{one_line_more, after_line, read_lines}
 use Rattle.campaign_server.proofs.LineItems.{numbered_push}

@@ -1,12 +1,12 @@
 -- Every key is unwrapped from some block: AES takes some block to each.
 use Rattle.std.proofs.Common.{◌≡◌, ℕ, zero, suc, ◌+◌, ◌*◌, ◌%◌, ◌<◌, List, ◌∷◌, replicate, get_or, length, refl, sym, ap, ◌∙◌, subst, arith}
-use Rattle.aes_block.specs.Cipher.{IsBlock, byte_at, state_of, sub_bytes, shift_rows, mix_columns, add_round_key, words_from, round_key, after_round, cipher}
+use Rattle.aes_block.specs.Cipher.{IsBlock, byte_at, state_of, sub_bytes, shift_rows, mix_columns, add_round_key, round_key, after_round, cipher}
 use Rattle.aes_block.specs.Field.{sub_byte}
 use Rattle.aes_block.specs.declared.tables.TheConstants.{INVERSE_SUB}
 use Rattle.aes_block.proofs.Substitution.{undone-lt, redone}
 use Rattle.aes_block.proofs.States.{byte_at-state_of, state_of-block, same_block, sub_bytes-block, shift_rows-block, mix_columns-block, add_round_key-block, byte_of_sub_bytes, byte_of_shift_rows, add_round_key-twice, mix_columns-four_times}
 use Rattle.aes_block.proofs.Rounds.{words_from-block, cipher-same}
-use Rattle.mc_keys.specs.Keys.{mc_root_key, mc_root_key_1_1, mc_ke_key, mc_key}
+use Rattle.mc_keys.specs.Keys.{mc_ke_key, mc_key}
 use Rattle.mc_keys.specs.Roots.{root_of}
 use Rattle.mc_keys.specs.declared.root_kind.RootKind.{RootKind}
 use Rattle.mc_keys.specs.declared.root_kind.RootKind.TheVariants.{V10, V11}

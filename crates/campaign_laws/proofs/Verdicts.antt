@@ -16,7 +16,6 @@ use Rattle.package_grammar.specs.declared.command.Command.TheVariants.{Cast}
 use Rattle.package_grammar.specs.declared.downlink.Downlink.{Downlink}
 use Rattle.device_core.specs.SessionTable.{session_at}
 use Rattle.device_core.specs.Device.{DeviceState}
-use Rattle.device_core.specs.Deliver.{waking}
 use Rattle.wire_base.specs.Numbered.{numbered}
 use Rattle.script_lines.specs.declared.forms.Form.TheVariants.{Device, Wake, Migrate, Down, Raw, Air, RawAir}
 use Rattle.campaign_world.specs.declared.numbered.SentPayload.{SentPayload}
@@ -41,7 +40,6 @@ use Rattle.report_lines.specs.Sessions.{saying}
 use Rattle.campaign_server.proofs.LineItems.{if_some, numbered_next, take_next, within}
 use Rattle.campaign_laws.proofs.Independence.{devices_are_independent, folded}
 use Rattle.device_core.proofs.HeardSessions.{IsFine, of_one, AreFine, AreCarried, ComesAt, fine_later, event_fine}
-use Rattle.device_core.specs.Firmware.{after_migration}
 
 -- ---- what lines let happen
 

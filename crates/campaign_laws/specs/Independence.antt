@@ -9,7 +9,7 @@ use Rattle.script_lines.specs.declared.forms.Form.{Form}
 use Rattle.script_lines.specs.declared.forms.Form.TheVariants.{Device, At, Wake, Migrate, Down, Raw, Air, RawAir}
 use Rattle.campaign_world.specs.declared.numbered.SentPayload.{SentPayload}
 use Rattle.campaign_world.specs.World.{WorldState}
-use Rattle.campaign_world.specs.Said.{Said, Own, Reached, Line}
+use Rattle.campaign_world.specs.Said.{Own, Reached, Line}
 use Rattle.campaign_world.specs.Making.{device_of, event_of}
 use Rattle.campaign_world.specs.Script.{campaign_of}
 

@@ -1,5 +1,5 @@
 -- Each uplink that a world holds moves a stage once.
-use Rattle.std.specs.Prelude.{◌≡◌, ◌≢◌, ℕ, ◌^◌, ◌<◌, true, List, ◌∷◌, All, Some, Ok}
+use Rattle.std.specs.Prelude.{◌≡◌, ◌≢◌, ℕ, ◌^◌, ◌<◌, true, List, ◌∷◌, All, Ok}
 use Rattle.image_slots.specs.Image.{is_image}
 use Rattle.wire_base.specs.Numbered.{numbered}
 use Rattle.script_lines.specs.declared.forms.Form.TheVariants.{Up}

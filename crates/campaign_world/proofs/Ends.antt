@@ -1,5 +1,5 @@
 -- What the server sends, as it tells it.
-use Rattle.std.proofs.Common.{◌≡◌, Option, Some, None, Result, Ok, Err, refl, ap}
+use Rattle.std.proofs.Common.{◌≡◌, Option, Result, Ok, Err, ap}
 use Rattle.std.specs.Result.{result_ok}
 use Rattle.package_grammar.specs.declared.downlink.Downlink.{Downlink}
 use Rattle.campaign_server.specs.Server.{DownlinkCommand}

@@ -1,5 +1,5 @@
 -- What a world holds, for which campaigns it stands, and what it answers.
-use Rattle.std.specs.Prelude.{◌≡◌, ℕ, ◌+◌, Bool, false, List, [], ◌∷◌, length, Option, Some, None, Result, Ok, Err, OnOk, true}
+use Rattle.std.specs.Prelude.{◌≡◌, ℕ, ◌+◌, List, [], ◌∷◌, length, Option, Some, None, Result, Ok, Err, OnOk, true}
 use Rattle.std.specs.List.{AllZip}
 use Rattle.device_core.specs.Device.{DeviceState}
 use Rattle.campaign_server.specs.Server.{ServerState}

@@ -1,10 +1,9 @@
 -- After its image's line a campaign has one index to the end, and fields that fit.
-use Rattle.std.proofs.Common.{◌≡◌, ℕ, true, None, Ok, refl, sym, subst, true≢false}
+use Rattle.std.proofs.Common.{◌≡◌, ℕ, true, None, Ok, refl, subst}
 use Rattle.script_lines.specs.declared.forms.Form.{Form}
 use Rattle.script_lines.specs.declared.forms.Form.TheVariants.{Header, Image, Group, WindowC, WindowB, Device, At, Wake, Migrate, Power, Ask, Frag, Status, Down, Raw, Air, RawAir, Up, End}
 use Rattle.campaign_server.specs.Plan.{Plan}
 use Rattle.campaign_world.specs.declared.section.Section.{Section}
-use Rattle.campaign_world.specs.declared.section.Section.TheVariants as section
 use Rattle.campaign_world.specs.World.{WorldState}
 use Rattle.campaign_world.specs.Said.{Said, Own, Elsewhere, Reached}
 use Rattle.campaign_world.specs.Causes.{is_in_order, form_cause, said_cause}

@@ -1,10 +1,9 @@
 -- What a server sends sets no reboot that lasts, and what it sends to all is a fragment or a status request of its own index.
-use Rattle.std.proofs.Common.{◌≡◌, ◌⊎◌, inl, inr, ℕ, ◌+◌, ◌≤◌, Bool, true, false, cond, not, ◌==◌, ◌&&◌, List, [], ◌∷◌, length, nat_lt, Option, Some, None, IfSome, Result, Ok, Err, refl, sym, ap, ◌∙◌, subst, arith, ltb-false, ne_eqb}
+use Rattle.std.proofs.Common.{◌≡◌, ◌⊎◌, inl, inr, ℕ, ◌≤◌, Bool, true, false, not, ◌==◌, ◌&&◌, List, [], ◌∷◌, nat_lt, Option, Some, None, IfSome, Ok, refl, sym, ap, ◌∙◌, subst, arith, ne_eqb}
 use Rattle.std.specs.Result.{result_ok}
 use Rattle.std.proofs.lemmas.Bool.{lt-ltb}
 use Rattle.wire_base.specs.Numbered.{numbered}
 use Rattle.wire_base.specs.declared.refusal.Direction.TheVariants.{Down as Downwards}
-use Rattle.frag_encoder.specs.Encoding.{nb_frag_of}
 use Rattle.cast_wire.specs.declared.cmd.Cmd.TheVariants.{FragSessionStatusReq}
 use Rattle.sync_wire.specs.declared.cmd.Cmd.TheVariants.{DevVersionReq, DevUpgradeImageReq, DevRebootCountdownReq}
 use Rattle.package_grammar.specs.declared.command.Command.{Command}
@@ -21,12 +20,10 @@ use Rattle.campaign_server.specs.declared.plan.PlanDevice.{PlanDevice}
 use Rattle.campaign_server.specs.declared.stage.Stage.{Stage}
 use Rattle.campaign_server.specs.declared.stage.Stage.TheVariants.{At, Updated, Refused}
 use Rattle.campaign_server.specs.declared.stage.Request.TheVariants as request
-use Rattle.campaign_server.specs.declared.fragments.Spent.{Spent}
-use Rattle.campaign_server.specs.declared.fragments.Spent.TheVariants.{Fragments, Counts}
 use Rattle.campaign_server.specs.Plan.{Plan, own_id}
 use Rattle.campaign_server.specs.Server.{ServerState, DownlinkCommand, port_of, downlink_of, ledger}
 use Rattle.campaign_server.specs.Asking.{fragments_request, window_request_of, window_request, group_request, cast_of, request_at, command_for, by_unicast, request_of}
-use Rattle.campaign_server.specs.Fragments.{receivers, has_no_count, next_fragment, status_to_all}
+use Rattle.campaign_server.specs.Fragments.{has_no_count, next_fragment, status_to_all}
 use Rattle.campaign_server.specs.Time.{time_answer}
 use Rattle.campaign_world.specs.declared.numbered.SentPayload.{SentPayload}
 use Rattle.campaign_world.specs.Honest.{is_for_others, are_for_others}
