@@ -11,6 +11,7 @@ pub mod CausesByForm
 pub mod Beside
 pub mod Steps
 pub mod Lines
+pub mod Heard
 pub mod HeardWorld
 pub mod Counting
 pub mod Ends

@@ -3,11 +3,7 @@ use Rattle.std.proofs.Common.{◌≡◌, ◌≤◌, ◌+◌, ◌-◌, ℕ, List,
 use Rattle.std.specs.Prelude.{slice_range}
 use Rattle.std.specs.List.{AllByRecursion}
 use Rattle.std.proofs.lemmas.List.{drop-append-le, take-append-le, length-drop, drop_at, take_all, map-append}
-use Rattle.campaign_world.specs.declared.logs.SentHead.{SentHead}
-use Rattle.campaign_world.specs.declared.logs.MadeHead.{MadeHead}
-use Rattle.campaign_world.specs.declared.numbered.SentPayload.{SentPayload}
-use Rattle.campaign_world.specs.declared.numbered.NumberedUplink.{NumberedUplink}
-use Rattle.campaign_world.specs.LogsInside.{Lies, SentLie, MadeLie, sent_at, made_at}
+use Rattle.campaign_world.specs.LogsInside.{Lies}
 
 part_still : (bytes more : List ℕ) (at len : ℕ) → at + len ≤ length bytes
     → slice_range (bytes ++ more) at (at + len) ≡ slice_range bytes at (at + len)
@@ -34,7 +30,7 @@ items_still {H} {I} at len item bytes more (h ∷ hs) lie =
     ∙ ap (λ (xs : List I). item h (slice_range bytes (at h) (at h + len h)) ∷ xs) (items_still at len item bytes more hs lie.1)
 
 -- one more is after them
-one_more : {H I : Type 0} (at len : H → ℕ) (item : H → List ℕ → I) (bytes more now : List ℕ) (old new : List H) (head : H)
+pub one_more : {H I : Type 0} (at len : H → ℕ) (item : H → List ℕ → I) (bytes more now : List ℕ) (old new : List H) (head : H)
     → AllByRecursion (λ h. Lies bytes (at h) (len h)) old → now ≡ bytes ++ more → new ≡ old ++ head ∷ []
     → at head ≡ length bytes → len head ≡ length more
     → items_of at len item now new ≡ items_of at len item bytes old ++ item head more ∷ []
@@ -44,25 +40,3 @@ one_more {H} {I} at len item bytes more now old new head lie bytes_are are here 
     ∙ map-append (λ (h : H). item h (slice_range (bytes ++ more) (at h) (at h + len h))) old (head ∷ [])
     ∙ ap (λ (xs : List I). xs ++ item head (slice_range (bytes ++ more) (at head) (at head + len head)) ∷ []) (items_still at len item bytes more old lie)
     ∙ ap (λ (p : List ℕ). items_of at len item bytes old ++ item head p ∷ []) (part_last bytes more (at head) (len head) here many)
-
-abbrev sent_with : SentHead → (payload : List ℕ) → SentPayload
-sent_with h payload = record { receiver = h.receiver; down = record { to = h.to; port = h.port; payload = payload } }
-
-pub one_sent_more : (bytes more now : List ℕ) (old new : List SentHead) (head : SentHead)
-    → SentLie bytes old → now ≡ bytes ++ more → new ≡ old ++ head ∷ [] → head.at ≡ length bytes → head.len ≡ length more
-    → map (sent_at now) new ≡ map (sent_at bytes) old
-    ++ (record { receiver = head.receiver; down = record { to = head.to; port = head.port; payload = more } }) ∷ []
-one_sent_more bytes more now old new head lie bytes_are are here many =
-    one_more (λ (h : SentHead). h.at) (λ (h : SentHead). h.len)
-    sent_with bytes more now old new head lie bytes_are are here many
-
-abbrev made_with : MadeHead → (payload : List ℕ) → NumberedUplink
-made_with h payload = record { device = h.device; uplink = record { due = h.due; port = h.port; payload = payload } }
-
-pub one_made_more : (bytes more now : List ℕ) (old new : List MadeHead) (head : MadeHead)
-    → MadeLie bytes old → now ≡ bytes ++ more → new ≡ old ++ head ∷ [] → head.at ≡ length bytes → head.len ≡ length more
-    → map (made_at now) new ≡ map (made_at bytes) old
-    ++ (record { device = head.device; uplink = record { due = head.due; port = head.port; payload = more } }) ∷ []
-one_made_more bytes more now old new head lie bytes_are are here many =
-    one_more (λ (h : MadeHead). h.at) (λ (h : MadeHead). h.len)
-    made_with bytes more now old new head lie bytes_are are here many

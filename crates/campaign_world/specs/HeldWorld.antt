@@ -3,6 +3,7 @@ use Rattle.std.specs.Prelude.{◌≡◌, ℕ, ◌+◌, List, [], ◌∷◌, leng
 use Rattle.std.specs.List.{AllZip}
 use Rattle.device_core.specs.Device.{DeviceState}
 use Rattle.campaign_server.specs.Server.{ServerState}
+use Rattle.report_lines.specs.declared.faults.LineWhy.{LineWhy}
 use Rattle.report_lines.specs.declared.faults.LineError.{LineError}
 use Rattle.report_lines.specs.declared.faults.LineError.TheVariants as error
 use Rattle.campaign_world.specs.declared.numbered.SentPayload.{SentPayload}
@@ -91,11 +92,16 @@ pub record EndsStand (held : HeldWorld) (world : WorldState) : Type 0 where
 abbrev pub KeepsEnds : (old new : HeldWorld) → Type 0
 KeepsEnds old new = (world : WorldState) → WorldStands old world → EndsStand new world
 
--- the answer to a line: it was taken, or it is the first refused line with its first cause, or memory was missing
+-- the answer to a line with this number and first cause: it was taken, or it is the first refused line, or memory was missing
+abbrev pub IsAnswerTo : {S : Type 0} → Option LineWhy → (number : ℕ) → (here behind : S) → (kept : Option LineError) → (stands : S → Type 0)
+    → Result (Unit {0}) LineError → Type 0
+IsAnswerTo cause number here behind kept stands (Ok done) = (cause ≡ None) × stands behind × (kept ≡ None)
+IsAnswerTo cause number here behind kept stands (Err (error.Line fault)) = (cause ≡ Some fault.why) × (fault.line ≡ number) × stands here
+IsAnswerTo cause number here behind kept stands (Err error.Memory) = Unit {0}
+
 abbrev pub IsLineAnswer : WorldState → (line : List ℕ) → (new : HeldWorld) → Result (Unit {0}) LineError → Type 0
-IsLineAnswer world line new (Ok done) = (cause_of world (line_of line) ≡ None) × WorldStands new (after_line world (line_of line)) × (new.kept ≡ None)
-IsLineAnswer world line new (Err (error.Line fault)) = (cause_of world (line_of line) ≡ Some fault.why) × (fault.line ≡ world.lines + 1) × WorldStands new world
-IsLineAnswer world line new (Err error.Memory) = Unit {0}
+IsLineAnswer world line new result =
+    IsAnswerTo (cause_of world (line_of line)) (world.lines + 1) world (after_line world (line_of line)) new.kept (WorldStands new) result
 
 -- the answer of a text: that one, where the script has ended, else that it has not
 abbrev pub IsTextOf : (WorldState → List ℕ) → WorldState → Result (List ℕ) LineError → Type 0

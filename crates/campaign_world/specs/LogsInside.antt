@@ -7,19 +7,19 @@ use Rattle.campaign_world.specs.declared.logs.MadeHead.{MadeHead}
 use Rattle.campaign_world.specs.declared.numbered.SentPayload.{SentPayload}
 use Rattle.campaign_world.specs.declared.numbered.NumberedUplink.{NumberedUplink}
 
--- the payload with this head, among the bytes of all
+-- the payload with this head, and so among the bytes of all
+abbrev pub sent_with : SentHead → (payload : List ℕ) → SentPayload
+sent_with head payload = record { receiver = head.receiver; down = record { to = head.to; port = head.port; payload = payload } }
+
 abbrev pub sent_at : (bytes : List ℕ) → SentHead → SentPayload
-sent_at bytes head = record {
-  receiver = head.receiver;
-  down = record { to = head.to; port = head.port; payload = slice_range bytes head.at (head.at + head.len) };
-}
+sent_at bytes head = sent_with head (slice_range bytes head.at (head.at + head.len))
 
 -- the uplink with this head
+abbrev pub made_with : MadeHead → (payload : List ℕ) → NumberedUplink
+made_with head payload = record { device = head.device; uplink = record { due = head.due; port = head.port; payload = payload } }
+
 abbrev pub made_at : (bytes : List ℕ) → MadeHead → NumberedUplink
-made_at bytes head = record {
-  device = head.device;
-  uplink = record { due = head.due; port = head.port; payload = slice_range bytes head.at (head.at + head.len) };
-}
+made_at bytes head = made_with head (slice_range bytes head.at (head.at + head.len))
 
 -- so many bytes come after so many others, and are no more than a payload's
 pub record Lies (bytes : List ℕ) (at len : ℕ) : Type 0 where

@@ -96,10 +96,7 @@ impl SentLog {
         ensures same { self.new.items ≡ self.old.items }
         ensures room { OnOk result (HasRoom 1 self.new) }
     {
-        match self.heads.reserve(1) {
-            Ok(()) => {}
-            Err(error) => return Err(error),
-        }
+        self.heads.reserve(1)?;
         self.bytes.reserve(MAX_PAYLOAD)
     }
 
@@ -173,10 +170,7 @@ impl UplinkLog {
         ensures same { self.new.items ≡ self.old.items }
         ensures room { OnOk result (HasRoom outbox_size self.new) }
     {
-        match self.heads.reserve(OUTBOX) {
-            Ok(()) => {}
-            Err(error) => return Err(error),
-        }
+        self.heads.reserve(OUTBOX)?;
         self.bytes.reserve(OUTBOX * MAX_PAYLOAD)
     }
 

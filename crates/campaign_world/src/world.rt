@@ -162,14 +162,8 @@ impl World {
             → IsReport world (seen_text result) }
         ensures same { StaysRefused self.now.kept result }
     {
-        let campaign = match self.played() {
-            Ok(campaign) => campaign,
-            Err(error) => return Err(error),
-        };
-        match campaign.report(alloc) {
-            Ok(text) => Ok(text),
-            Err(_) => Err(LineError::Memory),
-        }
+        let campaign = self.played()?;
+        Ok(campaign.report(alloc)?)
     }
 
     /// Makes the summary of the campaign, once `end` has come: what was sent and heard, and how many devices have the image.
@@ -178,14 +172,8 @@ impl World {
             → IsSummary world (seen_text result) }
         ensures same { StaysRefused self.now.kept result }
     {
-        let campaign = match self.played() {
-            Ok(campaign) => campaign,
-            Err(error) => return Err(error),
-        };
-        match campaign.summary(alloc) {
-            Ok(text) => Ok(text),
-            Err(_) => Err(LineError::Memory),
-        }
+        let campaign = self.played()?;
+        Ok(campaign.summary(alloc)?)
     }
 
     /// Says that `end` has come, or else returns the fault of the line that is missing.
@@ -194,10 +182,8 @@ impl World {
             → IsEnded world result }
         ensures same { StaysRefused self.now.kept result }
     {
-        match self.played() {
-            Ok(_) => Ok(()),
-            Err(error) => Err(error),
-        }
+        self.played()?;
+        Ok(())
     }
 
     /// Returns the file that session 0 of a device, numbered from 1, recovered so far, or why there is none; `ended` says whether

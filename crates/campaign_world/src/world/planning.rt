@@ -1,6 +1,6 @@
 //! The plan, made by the lines of the image, of the group with its window, and of the devices.
 
-ghost use Rattle.std.specs.Prelude.{◌≡◌, ◌≤◌, ◌<◌, ◌++◌, ◌∷◌, [], ℕ, true, false, length, Option, Some, IfOk, OnOk, OnErr};
+ghost use Rattle.std.specs.Prelude.{◌≡◌, ◌≤◌, ◌<◌, ◌++◌, ◌∷◌, ◌^◌, [], ℕ, true, false, length, Option, Some, IfOk, OnOk, OnErr};
 ghost use Rattle.image_slots.specs.Image.{is_image};
 ghost use Rattle.campaign_server.specs.Plan.{is_frag_size, fits_bits};
 ghost use Rattle.campaign_server.specs.Server.{first_server};
@@ -117,13 +117,7 @@ impl Planning {
                 freq,
                 dr,
             } => {
-                self.window(PlanWindow {
-                    kind: Kind::C,
-                    start: *start as u32,
-                    timeout: *timeout as u8,
-                    freq: *freq as u32,
-                    dr: *dr as u8,
-                });
+                self.window(window_of(Kind::C, *start, *timeout, *freq, *dr));
                 Ok(())
             }
             Form::WindowB {
@@ -133,15 +127,10 @@ impl Planning {
                 freq,
                 dr,
             } => {
-                self.window(PlanWindow {
-                    kind: Kind::B {
-                        periodicity: *periodicity as u8,
-                    },
-                    start: *start as u32,
-                    timeout: *timeout as u8,
-                    freq: *freq as u32,
-                    dr: *dr as u8,
-                });
+                let kind = Kind::B {
+                    periodicity: *periodicity as u8,
+                };
+                self.window(window_of(kind, *start, *timeout, *freq, *dr));
                 Ok(())
             }
             Form::Device {
@@ -236,25 +225,18 @@ impl Planning {
             (λ world. with_joined world id config) }
         ensures ends { OnErr result (SameEnds (planned_by self.old) (planned_by self.new)) }
     {
-        match add_flash(&mut self.flash, id, config.held) {
-            Ok(()) => {}
-            Err(error) => return Err(error),
-        }
+        add_flash(&mut self.flash, id, config.held)?;
         let key = config.key;
         let root = config.root;
         let planned = PlanDevice { key, root };
-        match join(
+        join(
             &mut self.plan,
             &mut self.devices,
             planned,
             LateDevice::new(config),
-        ) {
-            Ok(()) => {
-                self.section = Section::Devices;
-                Ok(())
-            }
-            Err(error) => Err(error),
-        }
+        )?;
+        self.section = Section::Devices;
+        Ok(())
     }
 
     /// Makes the campaign that was planned, before its first event. Where memory is missing the plan is unchanged.
@@ -263,10 +245,7 @@ impl Planning {
         ensures begun { IfOk result (λ campaign. campaign ≡ planned_by self.old) }
         ensures same { OnErr result (self.new ≡ self.old) }
     {
-        let plan = match copy_of(alloc, &self.plan) {
-            Ok(plan) => plan,
-            Err(error) => return Err(error),
-        };
+        let plan = copy_of(alloc, &self.plan)?;
         match Server::new(alloc, plan, &self.image) {
             Ok(server) => {
                 let devices = replace(&mut self.devices, Vec::new(alloc));
@@ -293,21 +272,42 @@ fn first_plan(alloc: Global) -> Plan
     }
 }
 
+/// The window with these numbers.
+fn window_of(kind: Kind, start: u64, timeout: u64, freq: u64, dr: u64) -> PlanWindow
+    requires start { start < 2 ^ 32 }
+    requires timeout { timeout ≤ 15 }
+    requires freq { freq < 2 ^ 24 }
+    requires dr { dr ≤ 255 }
+    ensures { result ≡ record {
+      kind = kind;
+      start = start;
+      timeout = timeout;
+      freq = freq;
+      dr = dr;
+    } }
+{
+    PlanWindow {
+        kind,
+        start: start as u32,
+        timeout: timeout as u8,
+        freq: freq as u32,
+        dr: dr as u8,
+    }
+}
+
 /// A plan equal to this one.
 fn copy_of(alloc: Global, plan: &Plan) -> Result<Plan, AllocError>
     ensures { IfOk result (λ copy. copy ≡ plan.now) }
 {
-    match Vec::from_slice(alloc, &plan.devices) {
-        Ok(devices) => Ok(Plan {
-            frag_size: plan.frag_size,
-            parity: plan.parity,
-            index: plan.index,
-            group: plan.group,
-            window: plan.window,
-            devices,
-        }),
-        Err(error) => Err(error),
-    }
+    let devices = Vec::from_slice(alloc, &plan.devices)?;
+    Ok(Plan {
+        frag_size: plan.frag_size,
+        parity: plan.parity,
+        index: plan.index,
+        group: plan.group,
+        window: plan.window,
+        devices,
+    })
 }
 
 /// Puts a device into the plan and the campaign; into neither, where there is no room for both.
@@ -323,10 +323,7 @@ fn join(
     ensures unplanned { OnErr result (plan.new ≡ plan.old) }
     ensures same { OnErr result (devices.new.items ≡ devices.old.items) }
 {
-    match devices.reserve(1) {
-        Ok(()) => {}
-        Err(error) => return Err(error),
-    }
+    devices.reserve(1)?;
     match plan.devices.push(key) {
         Ok(()) => {
             devices.push_reserved(device);

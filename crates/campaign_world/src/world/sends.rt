@@ -33,10 +33,7 @@ impl Campaign {
             (λ world. at_events (with_sent world (Some device) (request_of world.server device))) }
         ensures ends { OnErr result (SameEnds self.old self.new) }
     {
-        match self.sent.reserve() {
-            Ok(()) => {}
-            Err(error) => return Err(error),
-        }
+        self.sent.reserve()?;
         send_request(&mut self.sent, &self.server, device);
         Ok(())
     }
@@ -49,10 +46,7 @@ impl Campaign {
             (result_ok (next_fragment world.server)))) }
         ensures ends { OnErr result (SameEnds self.old self.new) }
     {
-        match self.sent.reserve() {
-            Ok(()) => {}
-            Err(error) => return Err(error),
-        }
+        self.sent.reserve()?;
         send_fragment(&mut self.sent, &mut self.server);
         Ok(())
     }
@@ -65,10 +59,7 @@ impl Campaign {
             (status_to_all world.server))) }
         ensures ends { OnErr result (SameEnds self.old self.new) }
     {
-        match self.sent.reserve() {
-            Ok(()) => {}
-            Err(error) => return Err(error),
-        }
+        self.sent.reserve()?;
         send_status(&mut self.sent, &mut self.server);
         Ok(())
     }
@@ -81,10 +72,7 @@ impl Campaign {
             (λ world. at_events (after_up world (numbered world.uplinks number))) }
         ensures ends { OnErr result (SameEnds self.old self.new) }
     {
-        match self.sent.reserve() {
-            Ok(()) => {}
-            Err(error) => return Err(error),
-        }
+        self.sent.reserve()?;
         let made = self.uplinks.number(number).unwrap();
         send_answer(&mut self.sent, &mut self.server, &made, self.time);
         Ok(())

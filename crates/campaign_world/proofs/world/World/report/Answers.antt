@@ -1,8 +1,8 @@
 use Rattle.campaign_world.proofs.Lines.{told}
 use Rattle.campaign_world.proofs.world.World.report.Goals as goal
 
-pub returns-in-Ok-report-clause-report : goal.returns-in-Ok-report-clause-report
-returns-in-Ok-report-clause-report c = λ world stands unkept. (
-  c.in-Ok.ensures.ended world stands unkept,
-  told _ world _ _ stands c.in-Ok.ensures.server (c.in-Ok-report.ensures world.devices (rw (c.in-Ok.ensures.devices) stands.devices)),
+pub returns-clause-report : goal.returns-clause-report
+returns-clause-report c = λ world stands unkept. (
+  c.in_ok-campaign.ensures.ended world stands unkept,
+  told _ world _ _ stands c.in_ok-campaign.ensures.server (c.in_ok-report.ensures world.devices (rw (c.in_ok-campaign.ensures.devices) stands.devices)),
 )

@@ -65,44 +65,28 @@ overflow_cast-id c = let count = causes.counting c.args.form.now c.in-Group.id c
 pub group-requires-clause-id : goal.group-requires-clause-id
 group-requires-clause-id c = let count = causes.counting c.args.form.now c.in-Group.id c.in-Group.addr c.in-Group.min c.in-Group.max c.in-Group.key c.in-Group.is c.requires.tested.ranges in count.named
 
-pub overflow_cast-start : goal.overflow_cast-start
-overflow_cast-start c = let opens = causes.opening_c c.args.form.now c.in-WindowC.start c.in-WindowC.timeout c.in-WindowC.freq c.in-WindowC.dr c.in-WindowC.is c.requires.tested.ranges in omega (arith, opens.start_fits)
-
-pub overflow_cast-timeout : goal.overflow_cast-timeout
-overflow_cast-timeout c = let opens = causes.opening_c c.args.form.now c.in-WindowC.start c.in-WindowC.timeout c.in-WindowC.freq c.in-WindowC.dr c.in-WindowC.is c.requires.tested.ranges in omega (arith, opens.timeout_fits)
-
-pub overflow_cast-freq : goal.overflow_cast-freq
-overflow_cast-freq c = let opens = causes.opening_c c.args.form.now c.in-WindowC.start c.in-WindowC.timeout c.in-WindowC.freq c.in-WindowC.dr c.in-WindowC.is c.requires.tested.ranges in omega (arith, opens.freq_fits)
-
-pub overflow_cast-dr : goal.overflow_cast-dr
-overflow_cast-dr c = let opens = causes.opening_c c.args.form.now c.in-WindowC.start c.in-WindowC.timeout c.in-WindowC.freq c.in-WindowC.dr c.in-WindowC.is c.requires.tested.ranges in omega (arith, opens.dr_fits)
+pub window_of-requires : goal.window_of-requires
+window_of-requires c = let opens = causes.opening_c c.args.form.now c.in-WindowC.start c.in-WindowC.timeout c.in-WindowC.freq c.in-WindowC.dr c.in-WindowC.is c.requires.tested.ranges in
+    record { start = opens.start_fits; timeout = opens.timeout_fits; freq = opens.freq_fits; dr = opens.dr_fits }
 
 pub window-requires-clause-here : goal.window-requires-clause-here
 window-requires-clause-here c = causes.window_c_at c.args.self.now.section c.args.form.now c.in-WindowC.start c.in-WindowC.timeout c.in-WindowC.freq c.in-WindowC.dr c.in-WindowC.is c.requires.in_order
 
 pub window-requires-clause-fits : goal.window-requires-clause-fits
-window-requires-clause-fits c = let opens = causes.opening_c c.args.form.now c.in-WindowC.start c.in-WindowC.timeout c.in-WindowC.freq c.in-WindowC.dr c.in-WindowC.is c.requires.tested.ranges in opens.test
+window-requires-clause-fits c = let opens = causes.opening_c c.args.form.now c.in-WindowC.start c.in-WindowC.timeout c.in-WindowC.freq c.in-WindowC.dr c.in-WindowC.is c.requires.tested.ranges in rw (c.window_of.ensures) opens.test
 
-pub overflow_cast-periodicity : goal.overflow_cast-periodicity
-overflow_cast-periodicity c = let opens = causes.opening_b c.args.form.now c.in-WindowB.start c.in-WindowB.periodicity c.in-WindowB.timeout c.in-WindowB.freq c.in-WindowB.dr c.in-WindowB.is c.requires.tested.ranges in omega (arith, opens.1)
+pub overflow_cast-kind : goal.overflow_cast-kind
+overflow_cast-kind c = let opens = causes.opening_b c.args.form.now c.in-WindowB.start c.in-WindowB.periodicity c.in-WindowB.timeout c.in-WindowB.freq c.in-WindowB.dr c.in-WindowB.is c.requires.tested.ranges in omega (arith, opens.1)
 
-pub overflow_cast-start-in-WindowB : goal.overflow_cast-start-in-WindowB
-overflow_cast-start-in-WindowB c = let opens = causes.opening_b c.args.form.now c.in-WindowB.start c.in-WindowB.periodicity c.in-WindowB.timeout c.in-WindowB.freq c.in-WindowB.dr c.in-WindowB.is c.requires.tested.ranges in omega (arith, opens.0.start_fits)
-
-pub overflow_cast-timeout-in-WindowB : goal.overflow_cast-timeout-in-WindowB
-overflow_cast-timeout-in-WindowB c = let opens = causes.opening_b c.args.form.now c.in-WindowB.start c.in-WindowB.periodicity c.in-WindowB.timeout c.in-WindowB.freq c.in-WindowB.dr c.in-WindowB.is c.requires.tested.ranges in omega (arith, opens.0.timeout_fits)
-
-pub overflow_cast-freq-in-WindowB : goal.overflow_cast-freq-in-WindowB
-overflow_cast-freq-in-WindowB c = let opens = causes.opening_b c.args.form.now c.in-WindowB.start c.in-WindowB.periodicity c.in-WindowB.timeout c.in-WindowB.freq c.in-WindowB.dr c.in-WindowB.is c.requires.tested.ranges in omega (arith, opens.0.freq_fits)
-
-pub overflow_cast-dr-in-WindowB : goal.overflow_cast-dr-in-WindowB
-overflow_cast-dr-in-WindowB c = let opens = causes.opening_b c.args.form.now c.in-WindowB.start c.in-WindowB.periodicity c.in-WindowB.timeout c.in-WindowB.freq c.in-WindowB.dr c.in-WindowB.is c.requires.tested.ranges in omega (arith, opens.0.dr_fits)
+pub window_of-requires-in-WindowB : goal.window_of-requires-in-WindowB
+window_of-requires-in-WindowB c = let opens = causes.opening_b c.args.form.now c.in-WindowB.start c.in-WindowB.periodicity c.in-WindowB.timeout c.in-WindowB.freq c.in-WindowB.dr c.in-WindowB.is c.requires.tested.ranges in
+    record { start = opens.0.start_fits; timeout = opens.0.timeout_fits; freq = opens.0.freq_fits; dr = opens.0.dr_fits }
 
 pub window-requires-in-WindowB-clause-here : goal.window-requires-in-WindowB-clause-here
 window-requires-in-WindowB-clause-here c = causes.window_b_at c.args.self.now.section c.args.form.now c.in-WindowB.start c.in-WindowB.periodicity c.in-WindowB.timeout c.in-WindowB.freq c.in-WindowB.dr c.in-WindowB.is c.requires.in_order
 
 pub window-requires-in-WindowB-clause-fits : goal.window-requires-in-WindowB-clause-fits
-window-requires-in-WindowB-clause-fits c = let opens = causes.opening_b c.args.form.now c.in-WindowB.start c.in-WindowB.periodicity c.in-WindowB.timeout c.in-WindowB.freq c.in-WindowB.dr c.in-WindowB.is c.requires.tested.ranges in rw (le-leb c.in-WindowB.periodicity 7 opens.1) opens.0.test
+window-requires-in-WindowB-clause-fits c = let opens = causes.opening_b c.args.form.now c.in-WindowB.start c.in-WindowB.periodicity c.in-WindowB.timeout c.in-WindowB.freq c.in-WindowB.dr c.in-WindowB.is c.requires.tested.ranges in rw (c.window_of-in-WindowB.ensures, le-leb c.in-WindowB.periodicity 7 opens.1) opens.0.test
 
 pub returns-in-Image-clause-taken : goal.returns-in-Image-clause-taken
 unfolding after_form
@@ -114,11 +98,11 @@ returns-in-Group-clause-taken c = rw (c.in-Group.is) (c.group.ensures.taken c.ar
 
 pub returns-in-WindowC-clause-taken : goal.returns-in-WindowC-clause-taken
 unfolding after_form
-returns-in-WindowC-clause-taken c = rw (c.in-WindowC.is) (c.window.ensures.taken c.args.lines)
+returns-in-WindowC-clause-taken c = rw (c.in-WindowC.is, ← c.window_of.ensures) (c.window.ensures.taken c.args.lines)
 
 pub returns-in-WindowB-clause-taken : goal.returns-in-WindowB-clause-taken
 unfolding after_form
-returns-in-WindowB-clause-taken c = rw (c.in-WindowB.is) (c.window-in-WindowB.ensures.taken c.args.lines)
+returns-in-WindowB-clause-taken c = rw (c.in-WindowB.is, ← c.window_of-in-WindowB.ensures) (c.window-in-WindowB.ensures.taken c.args.lines)
 
 pub returns-in-Device-clause-taken : goal.returns-in-Device-clause-taken
 unfolding after_form
