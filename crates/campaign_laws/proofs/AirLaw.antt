@@ -1,6 +1,6 @@
 -- `air` instead of `down` leaves a campaign unchanged.
-use Rattle.std.proofs.Common.{◌≡◌, inl, inr, ℕ, ◌+◌, ◌^◌, ◌<◌, ◌≤◌, ◌&&◌, ◌||◌, not, nat_lt, nat_le, Bool, true, false, cond, List, [], ◌∷◌, ◌++◌, length, map, All, codes, Option, None, Some, Result, Ok, Err, refl, sym, ap, ◌∙◌, subst, arith}
-use Rattle.std.proofs.lemmas.Bool.{le-ltb, cases_lt, lt-ltb}
+use Rattle.std.proofs.Common.{◌≡◌, inl, inr, ℕ, ◌^◌, ◌<◌, ◌≤◌, ◌&&◌, nat_lt, Bool, true, false, List, [], ◌∷◌, ◌++◌, length, map, All, codes, Option, None, Some, Result, Ok, Err, refl, sym, ap, ◌∙◌, subst, arith}
+use Rattle.std.proofs.lemmas.Bool.{cases_lt, lt-ltb}
 use Rattle.std.specs.List.{AllZip}
 use Rattle.wire_base.specs.Numbered.{numbered}
 use Rattle.script_lines.specs.declared.forms.Form.{Form}
@@ -18,7 +18,6 @@ use Rattle.campaign_world.specs.World.{WorldState, first_world}
 use Rattle.campaign_world.specs.Said.{Said, Own, Line, line_of, said_in}
 use Rattle.campaign_world.specs.Causes.{is_in_order, names_device, may_reach, goes_out, form_cause, line_cause, cause_of}
 use Rattle.campaign_world.specs.Honest.{AreHonest}
-use Rattle.campaign_world.specs.Making.{after_form}
 use Rattle.campaign_world.specs.Script.{one_line_more, after_line, line_result, read_line, read_lines, end_result, campaign_of}
 use Rattle.campaign_laws.specs.Airing.{HasAir, IsAired, AirIsDown}
 use Rattle.campaign_laws.proofs.HeadlineForms.{passes, payload_there}

@@ -37,7 +37,8 @@ use Rattle.campaign_world.specs.Honest.{is_raw}
 use Rattle.campaign_world.specs.Causes.{is_in_order, names_device, may_reach, is_to_group, goes_out, form_cause}
 use Rattle.campaign_world.specs.Making.{with_device, reception, sent_frame, hearing, with_event, at_events, after_form}
 use Rattle.campaign_laws.proofs.HeadlineCommands.{Cut, cut_of, IsGood, IsSentOf, IsCut, sync_high, fragment_good, status_good}
-use Rattle.campaign_laws.proofs.HeadlineForms.{passes, number_there, device_there, all_numbered, is_strange, late_cut}
+use Rattle.campaign_laws.proofs.HeadlineForms.{passes, is_strange, late_cut}
+use Rattle.campaign_laws.proofs.Items.{is_there, all_numbered}
 use Rattle.campaign_laws.proofs.HeadlineWorlds.{IsPayloadOf, Keeps}
 use Rattle.campaign_laws.proofs.OwnGroups.{IsOwn, HasOwn, held_group, reboot_groups, same_by}
 use Rattle.campaign_laws.proofs.Keyed.{FitsGroup, IsDue, IsDueOf, IsKept}
@@ -255,7 +256,7 @@ pub air_same : (image : List ℕ) (w : WorldState) (number n word : ℕ) → All
     → form_cause w (Air number n word) ≡ None → after_form w (Air number n word) ≡ after_form w (Down number n word)
 air_same image w number n word bytes keeps k fine =
     let p = passes w (Air number n word) fine in
-    let there = device_there w.devices n (number_there (length w.devices) n p.names) in
+    let there = (is_there w.devices n p.names).1 in
     let got = air_there (numbered w.sent number) n p.come in
     let cut = late_cut image w (Air number n word) w.section refl p.may keeps.stands in
     by_way image w number n word got.0.down.to there.0 got.0 bytes cut k there.1 got.1 refl got.2

@@ -1,4 +1,4 @@
--- A device that runs no file, and is not asked to reboot, stays so.
+-- A device that is not asked to reboot runs on, also one that runs no file.
 use Rattle.std.proofs.Common.{◌≡◌, ◌⊎◌, inl, inr, ℕ, ◌+◌, ◌==◌, nat_le, nat_lt, Bool, true, false, cond, List, [], ◌∷◌, length, Option, None, Some, is_none, Result, Ok, Err, refl, sym, ap, ◌∙◌, subst, arith}
 use Rattle.std.specs.List.{AllByRecursion, slice_set}
 use Rattle.wire_base.specs.declared.refusal.Direction.TheVariants.{Down}
@@ -31,10 +31,14 @@ use Rattle.device_core.specs.Step.{command_step, acts, step, after_commands, wei
 use Rattle.device_core.specs.Deliver.{Outcome, asks_time, message_delivery, read_delivery, arrival, heard_delivery, time_asking, waking, delivery}
 use Rattle.campaign_laws.proofs.Devices.{version_asked}
 
--- it runs no file, and no reboot is set
-pub record IsUntouched (d : DeviceState) : Type 0 where
+-- it runs the file of this version, and no reboot is set
+pub record IsIdle (runs : ℕ) (d : DeviceState) : Type 0 where
   pub reboot : d.reboot ≡ None
-  pub version : d.slots.version ≡ 0
+  pub version : d.slots.version ≡ runs
+
+-- it runs no file
+abbrev pub IsUntouched : DeviceState → Type 0
+IsUntouched d = IsIdle 0 d
 
 -- a command that sets no reboot
 abbrev pub is_calm : Command → Bool
@@ -61,54 +65,54 @@ deleted_version version slots = either_version (delete_bits slots.next version =
 
 -- ---- each command
 
-either : (b : Bool) (one other : DeviceStep) → IsUntouched one.device → IsUntouched other.device → IsUntouched (cond b one other).device
+either : {runs : ℕ} (b : Bool) (one other : DeviceStep) → IsIdle runs one.device → IsIdle runs other.device → IsIdle runs (cond b one other).device
 either true one other k l = k
 either false one other k l = l
 
-sync_calm : (at : Arrival) (d : DeviceState) (cmd : SyncCmd) → is_calm (Sync cmd) ≡ true → IsUntouched d → IsUntouched (command_step at d (Sync cmd)).device
+sync_calm : {runs : ℕ} (at : Arrival) (d : DeviceState) (cmd : SyncCmd) → is_calm (Sync cmd) ≡ true → IsIdle runs d → IsIdle runs (command_step at d (Sync cmd)).device
 unfolding command_step answer_step periodicity_step resync_step version_step upgrade_step delete_image_step
 sync_calm at d (s.DevRebootTimeReq time) calm k = absurd cc
 sync_calm at d (s.DevRebootCountdownReq count) calm k = absurd cc
 sync_calm at d (s.DevDeleteImageReq version) calm k = record { reboot = k.reboot; version = deleted_version version d.slots ∙ k.version }
 sync_calm at d cmd calm k = record { reboot = k.reboot; version = k.version }
 
-fragment_calm : (at : Arrival) (d : DeviceState) (index n : ℕ) (part : List ℕ) (b : Bool) → IsUntouched d
-    → IsUntouched (cond b (heard_step at d index n part) (with_counts after_dropped d))
+fragment_calm : {runs : ℕ} (at : Arrival) (d : DeviceState) (index n : ℕ) (part : List ℕ) (b : Bool) → IsIdle runs d
+    → IsIdle runs (cond b (heard_step at d index n part) (with_counts after_dropped d))
 unfolding heard_step
 fragment_calm at d index n part true k = record { reboot = k.reboot; version = offered_version d.config.hw _ _ d.slots ∙ k.version }
 fragment_calm at d index n part false k = record { reboot = k.reboot; version = k.version }
 
-group_calm : (at : Arrival) (d : DeviceState) (id : ℕ) (group : Group) → IsUntouched d → IsUntouched (group_setup_step at d id group).device
+group_calm : {runs : ℕ} (at : Arrival) (d : DeviceState) (id : ℕ) (group : Group) → IsIdle runs d → IsIdle runs (group_setup_step at d id group).device
 unfolding group_setup_step
 group_calm at d id group k =
     either (nat_le (length d.groups) id) (one_answer at d (Cast (c.McGroupSetupAns id true)))
     (one_answer at (record d { groups = slice_set d.groups id (Some group) }) (Cast (c.McGroupSetupAns id false))) k (record { reboot = k.reboot; version = k.version })
 
-gone_calm : (at : Arrival) (d : DeviceState) (id : ℕ) → IsUntouched d → IsUntouched (group_delete_step at d id).device
+gone_calm : {runs : ℕ} (at : Arrival) (d : DeviceState) (id : ℕ) → IsIdle runs d → IsIdle runs (group_delete_step at d id).device
 unfolding group_delete_step
 gone_calm at d id k =
     either (is_none (group_at d.groups id)) (one_answer at d (Cast (c.McGroupDeleteAns id true)))
     (one_answer at (record d { groups = slice_set d.groups id None; class_session = without_group id d.class_session }) (Cast (c.McGroupDeleteAns id false)))
     k (record { reboot = k.reboot; version = k.version })
 
-cast_calm : (at : Arrival) (d : DeviceState) (cmd : CastCmd) → IsUntouched d → IsUntouched (command_step at d (Cast cmd)).device
+cast_calm : {runs : ℕ} (at : Arrival) (d : DeviceState) (cmd : CastCmd) → IsIdle runs d → IsIdle runs (command_step at d (Cast cmd)).device
 unfolding command_step setup_step status_step delete_step fragment_step groups_step class_session_step
 cast_calm at d (c.DataFragment index n part) k = fragment_calm at d index n part _ k
 cast_calm at d (c.McGroupSetupReq id addr key min max) k = group_calm at d id (group_of d.config.key d.config.root addr key min max) k
 cast_calm at d (c.McGroupDeleteReq id) k = gone_calm at d id k
 cast_calm at d cmd k = record { reboot = k.reboot; version = k.version }
 
-command_calm : (at : Arrival) (d : DeviceState) (x : Command) → is_calm x ≡ true → IsUntouched d → IsUntouched (command_step at d x).device
+command_calm : {runs : ℕ} (at : Arrival) (d : DeviceState) (x : Command) → is_calm x ≡ true → IsIdle runs d → IsIdle runs (command_step at d x).device
 command_calm at d (Sync cmd) calm k = sync_calm at d cmd calm k
 command_calm at d (Cast cmd) calm k = cast_calm at d cmd k
 
-step_calm : (at : Arrival) (d : DeviceState) (x : Command) → is_calm x ≡ true → IsUntouched d → IsUntouched (after_answers (step at d x))
+step_calm : {runs : ℕ} (at : Arrival) (d : DeviceState) (x : Command) → is_calm x ≡ true → IsIdle runs d → IsIdle runs (after_answers (step at d x))
 unfolding after_answers step
 step_calm at d x calm k =
     let made = either (acts at.via x) (command_step at d x) (no_answer d) (command_calm at d x calm k) k in
     record { reboot = made.reboot; version = made.version }
 
-commands_calm : (at : Arrival) (d : DeviceState) (xs : List Command) → AllByRecursion (λ x. is_calm x ≡ true) xs → IsUntouched d → IsUntouched (after_commands at d xs)
+pub commands_calm : {runs : ℕ} (at : Arrival) (d : DeviceState) (xs : List Command) → AllByRecursion (λ x. is_calm x ≡ true) xs → IsIdle runs d → IsIdle runs (after_commands at d xs)
 unfolding after_commands
 commands_calm at d [] calm k = k
 commands_calm at d (x ∷ xs) calm k = commands_calm at (after_answers (step at d x)) xs calm.1 (step_calm at d x calm.0 k)
@@ -125,15 +129,15 @@ far_calm (Sync (s.DevRebootCountdownReq count)) port far listed = absurd (far (o
 far_calm (Sync cmd) port far listed = refl
 far_calm (Cast cmd) port far listed = refl
 
-pub all_far : (xs : List Command) (port : ℕ) (bytes : List ℕ) (from end : ℕ) → (port ≡ 203 → ⊥) → SpellsTo xs port Down bytes from end → AllByRecursion (λ x. is_calm x ≡ true) xs
+all_far : (xs : List Command) (port : ℕ) (bytes : List ℕ) (from end : ℕ) → (port ≡ 203 → ⊥) → SpellsTo xs port Down bytes from end → AllByRecursion (λ x. is_calm x ≡ true) xs
 all_far [] port bytes from end far all = tt
 all_far (x ∷ xs) port bytes from end far all = (far_calm x port far all.1.listed, all_far xs port bytes all.0 end far all.2)
 
-either_outcome : {A : Type 0} (b : Bool) (one other : Outcome A) → IsUntouched one.device → IsUntouched other.device → IsUntouched (cond {A = Outcome A} b one other).device
+either_outcome : {A : Type 0} {runs : ℕ} (b : Bool) (one other : Outcome A) → IsIdle runs one.device → IsIdle runs other.device → IsIdle runs (cond {A = Outcome A} b one other).device
 either_outcome true one other k l = k
 either_outcome false one other k l = l
 
-read_calm : (at : Arrival) (d : DeviceState) (r : Reading) → ((xs : List Command) → r ≡ Ok xs → AllByRecursion (λ x. is_calm x ≡ true) xs) → IsUntouched d → IsUntouched (read_delivery at d r).device
+read_calm : {runs : ℕ} (at : Arrival) (d : DeviceState) (r : Reading) → ((xs : List Command) → r ≡ Ok xs → AllByRecursion (λ x. is_calm x ≡ true) xs) → IsIdle runs d → IsIdle runs (read_delivery at d r).device
 unfolding read_delivery message_delivery
 read_calm at d (Ok xs) calm k =
     let n : ℕ = length d.outbox + weights xs in
@@ -141,7 +145,7 @@ read_calm at d (Ok xs) calm k =
     (record { reboot = k.reboot; version = k.version }) (commands_calm at d xs (calm xs refl) k)
 read_calm at d (Err refusal) calm k = record { reboot = k.reboot; version = k.version }
 
-reading_calm : (down : Downlink) → IsCalm down → (xs : List Command) → reading_of down.port Down down.payload ≡ Ok xs → AllByRecursion (λ x. is_calm x ≡ true) xs
+pub reading_calm : (down : Downlink) → IsCalm down → (xs : List Command) → reading_of down.port Down down.payload ≡ Ok xs → AllByRecursion (λ x. is_calm x ≡ true) xs
 reading_calm down (inl far) xs is =
     let message : IsReading down.port Down down.payload (Ok xs) = subst (IsReading down.port Down down.payload) is (reads down.port Down down.payload) in
     all_far xs down.port down.payload 0 (length down.payload) far message.all
@@ -152,29 +156,29 @@ reading_calm down (inr (port, bytes)) xs is =
     let same : Sync s.DevVersionReq ∷ [] ≡ xs = cc in
     subst (AllByRecursion (λ x. is_calm x ≡ true)) same (refl, tt)
 
-unmoved : (t : ℕ) (d : DeviceState) → IsUntouched d → after_due_reboot t d ≡ d
+unmoved : {runs : ℕ} (t : ℕ) (d : DeviceState) → IsIdle runs d → after_due_reboot t d ≡ d
 unfolding after_due_reboot
 unmoved t d k = rw (k.reboot) refl
 
-pub due_calm : (t : ℕ) (d : DeviceState) → IsUntouched d → IsUntouched (after_due_reboot t d)
-due_calm t d k = subst IsUntouched (sym (unmoved t d k)) k
+pub due_calm : {runs : ℕ} (t : ℕ) (d : DeviceState) → IsIdle runs d → IsIdle runs (after_due_reboot t d)
+due_calm {runs} t d k = subst (IsIdle runs) (sym (unmoved t d k)) k
 
-heard_calm : (t word mark : ℕ) (down : Downlink) (d : DeviceState) → IsCalm down → IsUntouched d → IsUntouched (heard_delivery t word mark down d).device
+heard_calm : {runs : ℕ} (t word mark : ℕ) (down : Downlink) (d : DeviceState) → IsCalm down → IsIdle runs d → IsIdle runs (heard_delivery t word mark down d).device
 unfolding heard_delivery
 heard_calm t word mark down d calm k =
     either_outcome {A = Delivered} (hears d t down.to) (read_delivery (arrival t word mark down d) d (reading_of down.port Down down.payload)) (record { device = with_counts after_deaf d; answer = Deaf })
     (read_calm (arrival t word mark down d) d (reading_of down.port Down down.payload) (reading_calm down calm) k) (record { reboot = k.reboot; version = k.version })
 
-pub delivery_calm : (t word mark : ℕ) (down : Downlink) (d : DeviceState) → IsCalm down → IsUntouched d → IsUntouched (delivery t word mark down d).device
+pub delivery_calm : {runs : ℕ} (t word mark : ℕ) (down : Downlink) (d : DeviceState) → IsCalm down → IsIdle runs d → IsIdle runs (delivery t word mark down d).device
 unfolding delivery
 delivery_calm t word mark down d calm k = due_calm t _ (heard_calm t word mark down (after_due_reboot t d) calm (due_calm t d k))
 
-asking_calm : (t : ℕ) (d : DeviceState) → IsUntouched d → IsUntouched (time_asking t d).device
+asking_calm : {runs : ℕ} (t : ℕ) (d : DeviceState) → IsIdle runs d → IsIdle runs (time_asking t d).device
 unfolding time_asking after_answers
 asking_calm t d k =
     either_outcome {A = Result (Unit {0}) outbox.OutboxFull} (nat_le 8 (length d.outbox)) (record { device = d; answer = Err (record {}) })
     (record { device = after_answers (asks_time t d); answer = Ok tt }) (record { reboot = k.reboot; version = k.version }) (record { reboot = k.reboot; version = k.version })
 
-pub waking_calm : (t : ℕ) (d : DeviceState) → IsUntouched d → IsUntouched (waking t d).device
+pub waking_calm : {runs : ℕ} (t : ℕ) (d : DeviceState) → IsIdle runs d → IsIdle runs (waking t d).device
 unfolding waking
 waking_calm t d k = due_calm t _ (asking_calm t (after_due_reboot t d) (due_calm t d k))

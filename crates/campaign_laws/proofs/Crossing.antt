@@ -3,8 +3,6 @@
 use Rattle.std.proofs.Common.{◌≡◌, ℕ, ◌+◌, ◌==◌, not, ◌&&◌, Bool, true, false, cond, List, [], ◌∷◌, length, nat_lt, Option, None, is_none, Ok, Err, refl, sym, ap, ◌∙◌, subst, append-nil}
 use Rattle.std.proofs.lemmas.Bool.{and_parts, ltb-true, eqb-false}
 use Rattle.wire_base.specs.declared.refusal.Direction.TheVariants.{Down as Downwards}
-use Rattle.frag_session.specs.declared.answers.Via.{Via}
-use Rattle.frag_session.specs.declared.answers.Via.TheVariants as via
 use Rattle.frag_session.specs.Session.{Session, drop_cause, status_of}
 use Rattle.cast_wire.specs.declared.cmd.Cmd.TheVariants.{FragSessionStatusReq, DataFragment}
 use Rattle.package_grammar.specs.declared.command.Command.{Command}
@@ -20,7 +18,7 @@ use Rattle.device_core.specs.Answers.{no_answer, after_answers}
 use Rattle.device_core.specs.ClassSessions.{hears}
 use Rattle.device_core.specs.Firmware.{after_due_reboot}
 use Rattle.device_core.specs.Fragments.{heard_step, status_step, status_answers, fragment_step}
-use Rattle.device_core.specs.Step.{command_step, acts, step, after_commands, weights}
+use Rattle.device_core.specs.Step.{command_step, step, after_commands, weights}
 use Rattle.device_core.specs.Deliver.{Outcome, message_delivery, read_delivery, arrival, heard_delivery, delivery}
 use Rattle.campaign_world.specs.Honest.{is_for_others, are_for_others}
 use Rattle.campaign_laws.specs.Headline.{HasNoOther}

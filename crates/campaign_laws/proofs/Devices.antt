@@ -30,16 +30,20 @@ use Rattle.campaign_server.specs.Asking.{request_at}
 use Rattle.campaign_server.specs.Answers.{stage_after}
 use Rattle.campaign_server.specs.Time.{time_answer_to}
 use Rattle.campaign_laws.proofs.Stands.{IsPlan, TakesTurn, behind}
+use Rattle.device_core.specs.declared.config.DeviceConfig.{DeviceConfig}
 
 -- what a line of a seed's script makes of its configuration; no reboot is set, and no uplink held
+pub record IsPlainConfig (c : DeviceConfig) : Type 0 where
+  pub class : c.class ≡ class.C
+  pub hw : c.hw ≡ 1
+  pub rows : c.rows ≡ 64
+  pub descriptor : c.descriptor ≡ None
+  pub sessions : c.sessions ≡ 4
+  pub area : c.area ≡ max_area
+  pub memory : c.held ≡ false
+
 pub record IsPlain (d : DeviceState) : Type 0 where
-  pub class : d.config.class ≡ class.C
-  pub hw : d.config.hw ≡ 1
-  pub rows : d.config.rows ≡ 64
-  pub descriptor : d.config.descriptor ≡ None
-  pub sessions : d.config.sessions ≡ 4
-  pub area : d.config.area ≡ max_area
-  pub memory : d.config.held ≡ false
+  pub config : IsPlainConfig d.config
   pub reboot : d.reboot ≡ None
   pub outbox : d.outbox ≡ []
 
@@ -59,7 +63,7 @@ unfolding heard_delivery hears read_delivery message_delivery after_commands ste
 heard_is c d mark plain read light =
     let none : length d.outbox ≡ 0 = ap length plain.outbox in
     let few : nat_lt 8 (length d.outbox + weights (c ∷ [])) ≡ false = le-ltb _ _ (omega (arith, none, light)) in
-    rw (plain.class, read, few) refl
+    rw (plain.config.class, read, few) refl
 
 -- what a command makes of it, except for a reboot that is then due
 pub delivered_is : (c : Command) (d : DeviceState) (mark : ℕ) → IsPlain d → reading_of (port_of c) Down (canonical c) ≡ Ok (c ∷ []) → weight c ≤ 1

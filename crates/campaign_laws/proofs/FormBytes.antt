@@ -1,6 +1,7 @@
 -- The keys and addresses that the words of a line spell fit their fields.
 use Rattle.std.proofs.Common.{◌≡◌, ℕ, ◌+◌, ◌-◌, ◌/◌, ◌^◌, ◌<◌, ◌==◌, ◌&&◌, Bool, true, false, cond, List, [], ◌∷◌, length, map, nat_lt, get_or, codes, Option, None, Some, IfSome, Result, Ok, Err, refl, subst, arith, eqb-true}
 use Rattle.std.specs.Int.{w32, from_be_bytes}
+use Rattle.std.proofs.lemmas.Option.{IfSome_then}
 use Rattle.hex.specs.declared.error.FromHexError.{FromHexError}
 use Rattle.hex.specs.declared.error.FromHexError.TheVariants.{OddLength, InvalidStringLength}
 use Rattle.hex.specs.Hex.{decode_pairs}
@@ -65,135 +66,157 @@ hex_small digits = small_by _ (sized 4 digits _ _ refl)
 
 -- ---- forms
 
-record Fits (index : ℕ) (o : Option Form) : Type 0 where
-  its : IfSome o (HasFields index)
+-- one that may name a campaign: none that both of two campaigns take, that names only a device, or that brings nobody's payload
+abbrev pub may_name : Form → Bool
+may_name Header = false
+may_name (At time) = false
+may_name (Wake device) = false
+may_name (Migrate device) = false
+may_name (Power device) = false
+may_name (Ask device) = false
+may_name (Raw device port payload random) = false
+may_name (RawAir device bytes random) = false
+may_name End = false
+may_name form = true
 
-leaf : (index : ℕ) (form : Form) → HasFields index form → Fits index (Some form)
-leaf index form fits = record { its = fits }
+-- what the words of such a form spell, for an image of this index
+abbrev pub IsNamed : ℕ → Form → Type 0
+IsNamed index form = HasFields index form × (may_name form ≡ true)
 
-nothing : (index : ℕ) → Fits index None
-nothing index = record { its = tt }
+-- a form that is spelt is one of these
+pub record Fits (P : Form → Type 0) (o : Option Form) : Type 0 where
+  pub its : IfSome o P
 
-either : (index : ℕ) (b : Bool) (one other : Option Form) → Fits index one → Fits index other → Fits index (cond b one other)
-either index true one other k l = k
-either index false one other k l = l
+leaf : {P : Form → Type 0} (form : Form) → P form → Fits P (Some form)
+leaf form fits = record { its = fits }
 
-behind : {A : Type 0} (index : ℕ) (o : Option A) (f : A → Option Form) → ((x : A) → o ≡ Some x → Fits index (f x)) → Fits index (o >>= f)
-behind index None f h = nothing index
-behind index (Some x) f h = h x refl
+pub nothing : {P : Form → Type 0} → Fits P None
+nothing = record { its = tt }
 
-at_some : {A : Type 0} (P : A → Type 0) (o : Option A) (x : A) → IfSome o P → o ≡ Some x → P x
+pub either : {P : Form → Type 0} (b : Bool) (one other : Option Form) → Fits P one → Fits P other → Fits P (cond b one other)
+either true one other k l = k
+either false one other k l = l
+
+pub behind : {A : Type 0} {P : Form → Type 0} (o : Option A) (f : A → Option Form) → ((x : A) → o ≡ Some x → Fits P (f x)) → Fits P (o >>= f)
+behind None f h = nothing
+behind (Some x) f h = h x refl
+
+pub fits_then : {P Q : Form → Type 0} (o : Option Form) → Fits P o → ((form : Form) → P form → Q form) → Fits Q o
+fits_then {P} {Q} o k then = record { its = IfSome_then o {P = P} {Q = Q} k.its then }
+
+pub at_some : {A : Type 0} (P : A → Type 0) (o : Option A) (x : A) → IfSome o P → o ≡ Some x → P x
 at_some P None x k is = absurd cc
 at_some P (Some y) x k is = let same : y ≡ x = cc in subst P same k
 
-group_words_fit : (index : ℕ) (line : List ℕ) (k id : ℕ) → Fits index (group_words line k id)
-group_words_fit index line k id =
-    behind index (hex_at line k) _ (λ addr addr_is. behind index (key_at line (k + 1)) _ (λ key key_is. behind index (decimal_at line (k + 2)) _ (λ min min_is.
-    behind index (decimal_at line (k + 3)) _ (λ max max_is. leaf index (Group id addr key min max) (
-      at_some (λ (n : ℕ). n < 2 ^ 32) (hex_at line k) addr (hex_small (word line k)) addr_is,
-      at_some IsBlock (key_at line (k + 1)) key (key_block (word line (k + 1))) key_is,
+pub group_words_fit : (line : List ℕ) (k id : ℕ) → Fits (IsNamed 0) (group_words line k id)
+group_words_fit line k id =
+    behind (hex_at line k) _ (λ addr addr_is. behind (key_at line (k + 1)) _ (λ key key_is. behind (decimal_at line (k + 2)) _ (λ min min_is.
+    behind (decimal_at line (k + 3)) _ (λ max max_is. leaf (Group id addr key min max) (
+      (
+        at_some (λ (n : ℕ). n < 2 ^ 32) (hex_at line k) addr (hex_small (word line k)) addr_is,
+        at_some IsBlock (key_at line (k + 1)) key (key_block (word line (k + 1))) key_is,
+      ),
+      refl,
     )))))
 
-group_fits : (index : ℕ) (line : List ℕ) → Fits index (group_form line)
-group_fits index line = either index _ _ None (group_words_fit index line 1 0) (nothing index)
+device_words_fit : (line : List ℕ) (k : ℕ) (descriptor : Option ℕ) (v1 k11 flash : Bool) → Fits (IsNamed 0) (device_words line k descriptor v1 k11 flash)
+device_words_fit line k descriptor v1 k11 flash =
+    behind (decimal_at line 1) _ (λ id id_is. behind (class_at line k) _ (λ class class_is. behind (decimal_at line (k + 1)) _ (λ hw hw_is.
+    behind (decimal_at line (k + 2)) _ (λ rows rows_are. behind (decimal_at line (k + 3)) _ (λ offset offset_is.
+    behind (key_at line (k + 4)) _ (λ key key_is. leaf (Device id class hw rows offset key descriptor v1 k11 flash)
+    (at_some IsBlock (key_at line (k + 4)) key (key_block (word line (k + 4))) key_is, refl)))))))
 
-device_words_fit : (index : ℕ) (line : List ℕ) (k : ℕ) (descriptor : Option ℕ) (v1 k11 flash : Bool) → Fits index (device_words line k descriptor v1 k11 flash)
-device_words_fit index line k descriptor v1 k11 flash =
-    behind index (decimal_at line 1) _ (λ id id_is. behind index (class_at line k) _ (λ class class_is. behind index (decimal_at line (k + 1)) _ (λ hw hw_is.
-    behind index (decimal_at line (k + 2)) _ (λ rows rows_are. behind index (decimal_at line (k + 3)) _ (λ offset offset_is.
-    behind index (key_at line (k + 4)) _ (λ key key_is. leaf index (Device id class hw rows offset key descriptor v1 k11 flash)
-    (at_some IsBlock (key_at line (k + 4)) key (key_block (word line (k + 4))) key_is)))))))
+device_of_words_fit : (line : List ℕ) (k count : ℕ) (k11 flash : Bool) → Fits (IsNamed 0) (device_of_words line k count k11 flash)
+device_of_words_fit line k count k11 flash =
+    either _ _ _ (device_words_fit line k None false k11 flash)
+    (either _ _ _ (device_words_fit line k None true k11 flash)
+    (either _ _ _ (behind (hex_at line (k + 5)) _ (λ d is. device_words_fit line k (Some d) false k11 flash))
+    (either _ _ None (behind (hex_at line (k + 5)) _ (λ d is. device_words_fit line k (Some d) true k11 flash)) nothing)))
 
-device_of_words_fit : (index : ℕ) (line : List ℕ) (k count : ℕ) (k11 flash : Bool) → Fits index (device_of_words line k count k11 flash)
-device_of_words_fit index line k count k11 flash =
-    either index _ _ _ (device_words_fit index line k None false k11 flash)
-    (either index _ _ _ (device_words_fit index line k None true k11 flash)
-    (either index _ _ _ (behind index (hex_at line (k + 5)) _ (λ d is. device_words_fit index line k (Some d) false k11 flash))
-    (either index _ _ None (behind index (hex_at line (k + 5)) _ (λ d is. device_words_fit index line k (Some d) true k11 flash)) (nothing index))))
+device_to_fit : (line : List ℕ) (k count : ℕ) (flash : Bool) → Fits (IsNamed 0) (device_to line k count flash)
+device_to_fit line k count flash =
+    either _ _ _ (device_of_words_fit line k (count - 1) true flash) (device_of_words_fit line k count false flash)
 
-device_to_fit : (index : ℕ) (line : List ℕ) (k count : ℕ) (flash : Bool) → Fits index (device_to line k count flash)
-device_to_fit index line k count flash =
-    either index _ _ _ (device_of_words_fit index line k (count - 1) true flash) (device_of_words_fit index line k count false flash)
+pub device_fits : (line : List ℕ) (k : ℕ) → Fits (IsNamed 0) (device_from line k)
+device_fits line k =
+    either _ _ _ (device_to_fit line k (count_of line - 1) true) (device_to_fit line k (count_of line) false)
 
-device_fits : (index : ℕ) (line : List ℕ) (k : ℕ) → Fits index (device_from line k)
-device_fits index line k =
-    either index _ _ _ (device_to_fit index line k (count_of line - 1) true) (device_to_fit index line k (count_of line) false)
+pub image_words_fit : (line : List ℕ) (k index : ℕ) → Fits (IsNamed index) (image_words line k index)
+image_words_fit line k index =
+    behind (decimal_at line k) _ (λ size is. behind (decimal_at line (k + 1)) _ (λ parity parity_is. leaf (Image size parity index) (refl, refl)))
 
-image_words_fit : (index : ℕ) (line : List ℕ) (k : ℕ) → Fits index (image_words line k index)
-image_words_fit index line k =
-    behind index (decimal_at line k) _ (λ size is. behind index (decimal_at line (k + 1)) _ (λ parity parity_is. leaf index (Image size parity index) refl))
+pub window_fits : (line : List ℕ) (k : ℕ) → Fits (IsNamed 0) (window_from line k)
+window_fits line k = either _ _ _
+    (behind (decimal_at line (k + 1)) _ (λ a ai. behind (decimal_at line (k + 1 + 1)) _ (λ b bi. behind (decimal_at line (k + 1 + 2)) _ (λ c ci.
+    behind (decimal_at line (k + 1 + 3)) _ (λ d di. leaf (WindowC a b c d) (tt, refl))))))
+    (either _ _ None (behind (decimal_at line (k + 1)) _ (λ a ai. behind (decimal_at line (k + 1 + 1)) _ (λ b bi. behind (decimal_at line (k + 1 + 2)) _ (λ c ci.
+    behind (decimal_at line (k + 1 + 3)) _ (λ d di. behind (decimal_at line (k + 1 + 4)) _ (λ e ei. leaf (WindowB a b c d e) (tt, refl))))))) nothing)
 
-image_fits : (line : List ℕ) → Fits 0 (image_form line)
-image_fits line = either 0 _ _ None (image_words_fit 0 line 1) (nothing 0)
+-- a word and a number behind it
+pub lone_fits : {P : Form → Type 0} (line : List ℕ) (b : Bool) (form : ℕ → Form) → ((n : ℕ) → P (form n))
+    → Fits P (cond b (decimal_at line 1 >>= (λ n. Some (form n))) None)
+lone_fits line b form h = either b _ None (behind (decimal_at line 1) _ (λ n is. leaf (form n) (h n))) nothing
 
-window_fits : (index : ℕ) (line : List ℕ) (k : ℕ) → Fits index (window_from line k)
-window_fits index line k = either index _ _ _
-    (behind index (decimal_at line (k + 1)) _ (λ a ai. behind index (decimal_at line (k + 1 + 1)) _ (λ b bi. behind index (decimal_at line (k + 1 + 2)) _ (λ c ci.
-    behind index (decimal_at line (k + 1 + 3)) _ (λ d di. leaf index (WindowC a b c d) tt)))))
-    (either index _ _ None (behind index (decimal_at line (k + 1)) _ (λ a ai. behind index (decimal_at line (k + 1 + 1)) _ (λ b bi. behind index (decimal_at line (k + 1 + 2)) _ (λ c ci.
-    behind index (decimal_at line (k + 1 + 3)) _ (λ d di. behind index (decimal_at line (k + 1 + 4)) _ (λ e ei. leaf index (WindowB a b c d e) tt)))))) (nothing index))
+-- a word alone
+pub alone_fits : {P : Form → Type 0} (b : Bool) (form : Form) → P form → Fits P (cond b (Some form) None)
+alone_fits b form h = either b (Some form) None (leaf form h) nothing
 
-lone_fits : (index : ℕ) (line : List ℕ) (b : Bool) (form : ℕ → Form) → ((n : ℕ) → HasFields index (form n))
-    → Fits index (cond b (decimal_at line 1 >>= (λ n. Some (form n))) None)
-lone_fits index line b form h = either index b _ None (behind index (decimal_at line 1) _ (λ n is. leaf index (form n) (h n))) (nothing index)
+pub air_fits : (o : Option Form) → Fits (IsNamed 0) (in_the_air o)
+air_fits None = nothing
+air_fits (Some (Down number device random)) = leaf (Air number device random) (tt, refl)
+air_fits (Some form) = nothing
 
-alone_fits : (index : ℕ) (b : Bool) (form : Form) → HasFields index form → Fits index (cond b (Some form) None)
-alone_fits index b form h = either index b (Some form) None (leaf index form h) (nothing index)
+down_words_fit : (line : List ℕ) (payload : Option ℕ) (random : ℕ) → Fits (IsNamed 0) (down_words line payload random)
+down_words_fit line payload random =
+    behind payload _ (λ n is. behind (decimal_at line 2) _ (λ d di. leaf (Down n d random) (tt, refl)))
 
-air_fits : (index : ℕ) (o : Option Form) → Fits index (in_the_air o)
-air_fits index None = nothing index
-air_fits index (Some (Down number device random)) = leaf index (Air number device random) tt
-air_fits index (Some form) = nothing index
+pub down_fits : (line : List ℕ) (payload : Option ℕ) → Fits (IsNamed 0) (down_of line payload)
+down_fits line payload =
+    either _ (down_words line payload 0) _ (down_words_fit line payload 0)
+    (either _ _ None (behind (decimal_at line 3) _ (λ r ri. down_words_fit line payload r)) nothing)
 
-down_words_fit : (index : ℕ) (line : List ℕ) (payload : Option ℕ) (random : ℕ) → Fits index (down_words line payload random)
-down_words_fit index line payload random =
-    behind index payload _ (λ n is. behind index (decimal_at line 2) _ (λ d di. leaf index (Down n d random) tt))
+raw_words_fit : (line : List ℕ) (random : ℕ) → Fits (HasFields 0) (raw_words line random)
+raw_words_fit line random =
+    behind (decimal_at line 1) _ (λ d di. behind (decimal_at line 2) _ (λ p pi. behind (bytes_at line 3) _ (λ b bi. leaf (Raw d p b random) tt)))
 
-down_fits : (index : ℕ) (line : List ℕ) (payload : Option ℕ) → Fits index (down_of line payload)
-down_fits index line payload =
-    either index _ (down_words line payload 0) _ (down_words_fit index line payload 0)
-    (either index _ _ None (behind index (decimal_at line 3) _ (λ r ri. down_words_fit index line payload r)) (nothing index))
+raw_fits : (line : List ℕ) → Fits (HasFields 0) (raw_form line)
+raw_fits line =
+    either _ (raw_words line 0) _ (raw_words_fit line 0)
+    (either _ _ None (behind (decimal_at line 4) _ (λ r ri. raw_words_fit line r)) nothing)
 
-raw_words_fit : (index : ℕ) (line : List ℕ) (random : ℕ) → Fits index (raw_words line random)
-raw_words_fit index line random =
-    behind index (decimal_at line 1) _ (λ d di. behind index (decimal_at line 2) _ (λ p pi. behind index (bytes_at line 3) _ (λ b bi.
-    leaf index (Raw d p b random) tt)))
+raw_air_words_fit : (line : List ℕ) (random : ℕ) → Fits (HasFields 0) (raw_air_words line random)
+raw_air_words_fit line random =
+    behind (decimal_at line 1) _ (λ d di. behind (bytes_at line 2) _ (λ b bi. leaf (RawAir d b random) tt))
 
-raw_fits : (index : ℕ) (line : List ℕ) → Fits index (raw_form line)
-raw_fits index line =
-    either index _ (raw_words line 0) _ (raw_words_fit index line 0)
-    (either index _ _ None (behind index (decimal_at line 4) _ (λ r ri. raw_words_fit index line r)) (nothing index))
+raw_air_fits : (line : List ℕ) → Fits (HasFields 0) (raw_air_form line)
+raw_air_fits line =
+    either _ (raw_air_words line 0) _ (raw_air_words_fit line 0)
+    (either _ _ None (behind (decimal_at line 3) _ (λ r ri. raw_air_words_fit line r)) nothing)
 
-raw_air_words_fit : (index : ℕ) (line : List ℕ) (random : ℕ) → Fits index (raw_air_words line random)
-raw_air_words_fit index line random =
-    behind index (decimal_at line 1) _ (λ d di. behind index (bytes_at line 2) _ (λ b bi. leaf index (RawAir d b random) tt))
+named_fits : (o : Option Form) → Fits (IsNamed 0) o → Fits (HasFields 0) o
+named_fits o k = fits_then o k (λ form its. its.0)
 
-raw_air_fits : (index : ℕ) (line : List ℕ) → Fits index (raw_air_form line)
-raw_air_fits index line =
-    either index _ (raw_air_words line 0) _ (raw_air_words_fit index line 0)
-    (either index _ _ None (behind index (decimal_at line 3) _ (λ r ri. raw_air_words_fit index line r)) (nothing index))
-
-all_fit : (line : List ℕ) → Fits 0 (form_of line)
+all_fit : (line : List ℕ) → Fits (HasFields 0) (form_of line)
 unfolding form_of
 all_fit line =
-    either 0 (is_word line 0 (codes "fuota")) (header_form line) _ (alone_fits 0 (count_of line == 2 && is_word line 1 (codes "1")) Header tt)
-    (either 0 (is_word line 0 (codes "image")) (image_form line) _ (image_fits line)
-    (either 0 (is_word line 0 (codes "group")) (group_form line) _ (group_fits 0 line)
-    (either 0 (is_word line 0 (codes "window")) (window_form line) _ (window_fits 0 line 1)
-    (either 0 (is_word line 0 (codes "device")) (device_form line) _ (device_fits 0 line 2)
-    (either 0 (is_word line 0 (codes "at")) (at_form line) _ (lone_fits 0 line (count_of line == 2) (λ n. At n) (λ n. tt))
-    (either 0 (is_word line 0 (codes "wake")) (wake_form line) _ (lone_fits 0 line (count_of line == 2) (λ n. Wake n) (λ n. tt))
-    (either 0 (is_word line 0 (codes "migrate")) (migrate_form line) _ (lone_fits 0 line (count_of line == 2) (λ n. Migrate n) (λ n. tt))
-    (either 0 (is_word line 0 (codes "power")) (power_form line) _ (lone_fits 0 line (count_of line == 2) (λ n. Power n) (λ n. tt))
-    (either 0 (is_word line 0 (codes "ask")) (ask_form line) _ (lone_fits 0 line (count_of line == 2) (λ n. Ask n) (λ n. tt))
-    (either 0 (is_word line 0 (codes "frag")) (alone line Frag) _ (alone_fits 0 (count_of line == 1) Frag tt)
-    (either 0 (is_word line 0 (codes "status")) (alone line Status) _ (alone_fits 0 (count_of line == 1) Status tt)
-    (either 0 (is_word line 0 (codes "down")) (down_form line) _ (down_fits 0 line (decimal_at line 1))
-    (either 0 (is_word line 0 (codes "raw")) (raw_form line) _ (raw_fits 0 line)
-    (either 0 (is_word line 0 (codes "air")) (air_form line) _ (air_fits 0 (down_form line))
-    (either 0 (is_word line 0 (codes "rawair")) (raw_air_form line) _ (raw_air_fits 0 line)
-    (either 0 (is_word line 0 (codes "up")) (up_form line) _ (lone_fits 0 line (count_of line == 2) (λ n. Up n) (λ n. tt))
-    (either 0 (is_word line 0 (codes "end")) (alone line End) _ (alone_fits 0 (count_of line == 1) End tt) (nothing 0))))))))))))))))))
+    either (is_word line 0 (codes "fuota")) (header_form line) _ (alone_fits (count_of line == 2 && is_word line 1 (codes "1")) Header tt)
+    (either (is_word line 0 (codes "image")) (image_form line) _ (named_fits _ (either _ _ None (image_words_fit line 1 0) nothing))
+    (either (is_word line 0 (codes "group")) (group_form line) _ (named_fits _ (either _ _ None (group_words_fit line 1 0) nothing))
+    (either (is_word line 0 (codes "window")) (window_form line) _ (named_fits _ (window_fits line 1))
+    (either (is_word line 0 (codes "device")) (device_form line) _ (named_fits _ (device_fits line 2))
+    (either (is_word line 0 (codes "at")) (at_form line) _ (lone_fits line (count_of line == 2) (λ n. At n) (λ n. tt))
+    (either (is_word line 0 (codes "wake")) (wake_form line) _ (lone_fits line (count_of line == 2) (λ n. Wake n) (λ n. tt))
+    (either (is_word line 0 (codes "migrate")) (migrate_form line) _ (lone_fits line (count_of line == 2) (λ n. Migrate n) (λ n. tt))
+    (either (is_word line 0 (codes "power")) (power_form line) _ (lone_fits line (count_of line == 2) (λ n. Power n) (λ n. tt))
+    (either (is_word line 0 (codes "ask")) (ask_form line) _ (lone_fits line (count_of line == 2) (λ n. Ask n) (λ n. tt))
+    (either (is_word line 0 (codes "frag")) (alone line Frag) _ (alone_fits (count_of line == 1) Frag tt)
+    (either (is_word line 0 (codes "status")) (alone line Status) _ (alone_fits (count_of line == 1) Status tt)
+    (either (is_word line 0 (codes "down")) (down_form line) _ (named_fits _ (down_fits line (decimal_at line 1)))
+    (either (is_word line 0 (codes "raw")) (raw_form line) _ (raw_fits line)
+    (either (is_word line 0 (codes "air")) (air_form line) _ (named_fits _ (air_fits (down_form line)))
+    (either (is_word line 0 (codes "rawair")) (raw_air_form line) _ (raw_air_fits line)
+    (either (is_word line 0 (codes "up")) (up_form line) _ (lone_fits line (count_of line == 2) (λ n. Up n) (λ n. tt))
+    (either (is_word line 0 (codes "end")) (alone line End) _ (alone_fits (count_of line == 1) End tt) nothing)))))))))))))))))
 
 pub form_fits : (line : List ℕ) → IfSome (form_of line) (HasFields 0)
 form_fits line = (all_fit line).its

@@ -1,38 +1,33 @@
 -- An accepted script has its devices, with a stage for each.
-use Rattle.std.proofs.Common.{◌≡◌, inl, inr, ℕ, ◌+◌, ◌-◌, ◌≤◌, Bool, true, false, cond, List, [], ◌∷◌, ◌++◌, length, replicate, Option, None, Some, Result, Ok, Err, IfOk, is_ok, is_some, refl, sym, ap, ◌∙◌, subst, arith}
-use Rattle.std.specs.Result.{result_ok}
+use Rattle.std.proofs.Common.{◌≡◌, inl, inr, ℕ, ◌+◌, ◌-◌, ◌≤◌, true, List, [], ◌∷◌, ◌++◌, length, replicate, Option, None, Some, Result, Ok, Err, IfOk, refl, sym, ap, ◌∙◌, subst, arith}
 use Rattle.std.proofs.lemmas.List.{length-set, length_push, length-replicate}
-use Rattle.wire_base.specs.declared.refusal.Direction.TheVariants.{Up as Upwards}
 use Rattle.package_grammar.specs.declared.command.Command.{Command}
-use Rattle.package_grammar.specs.Reading.{Reading, reading_of}
 use Rattle.device_core.specs.Device.{DeviceState}
-use Rattle.device_core.specs.Events.{Event, Receives, event_step}
+use Rattle.device_core.specs.Events.{Event, Receives}
 use Rattle.campaign_server.specs.declared.stage.Stage.{Stage}
 use Rattle.campaign_server.specs.declared.stage.Stage.TheVariants.{At as AtRequest}
 use Rattle.campaign_server.specs.declared.stage.Request.TheVariants.{Version}
 use Rattle.campaign_server.specs.Plan.{Plan}
 use Rattle.campaign_server.specs.Server.{ServerState, DownlinkCommand, ledger}
 use Rattle.wire_base.specs.Numbered.{numbered}
-use Rattle.campaign_server.specs.Asking.{request_of}
-use Rattle.campaign_server.specs.Fragments.{after_count, next_fragment, after_fragment as server_after_fragment, status_to_all, after_status_to_all}
-use Rattle.campaign_server.specs.Uplinks.{with_answers, read_uplink, uplink_step}
+use Rattle.campaign_server.specs.Uplinks.{with_answers}
 use Rattle.script_lines.specs.declared.forms.Form.{Form}
-use Rattle.script_lines.specs.declared.forms.Form.TheVariants.{Header, Image, Group, WindowC, WindowB, Device, At, Wake, Migrate, Power, Ask, Frag, Status, Down, Raw, Air, RawAir, Up, End}
+use Rattle.script_lines.specs.declared.forms.Form.TheVariants.{Header, Image, Group, WindowC, WindowB, Device, Wake}
 use Rattle.campaign_world.specs.declared.section.Section.{Section}
 use Rattle.campaign_world.specs.declared.section.Section.TheVariants as section
 use Rattle.report_lines.specs.declared.faults.LineWhy.{LineWhy}
 use Rattle.report_lines.specs.declared.faults.LineFault.{LineFault}
-use Rattle.campaign_world.specs.declared.numbered.NumberedUplink.{NumberedUplink}
 use Rattle.campaign_world.specs.World.{WorldState, first_world}
 use Rattle.campaign_world.specs.Said.{Said, Own, Elsewhere, Reached, Line}
-use Rattle.campaign_world.specs.Causes.{is_event_or_end, is_in_order, takes_events, form_cause, said_cause, line_cause, cause_of}
-use Rattle.campaign_world.specs.Making.{with_sent, with_device, event_of, after_event_at, with_event_of, after_answer, after_up, at_events, root_of, after_form, after_said}
+use Rattle.campaign_world.specs.Causes.{is_event_or_end, is_in_order, takes_events, form_cause, said_cause, line_cause, cause_of, has_begun}
+use Rattle.campaign_world.specs.Making.{with_sent, with_device, event_of, after_event_at, at_events, root_of, after_form, after_said, with_event}
 use Rattle.campaign_world.specs.Script.{after_line, line_result, read_line, read_lines, campaign_of}
 use Rattle.campaign_laws.specs.Lives.{HasItsDevices}
 use Rattle.campaign_world.proofs.FormCauses.{event_at, passes}
 use Rattle.campaign_laws.proofs.HeadlineForms.{reached_passes}
 use Rattle.campaign_laws.proofs.HeadlineLines.{cause_by, end_is, ended}
 use Rattle.campaign_world.proofs.Sections.{by_section, never}
+use Rattle.campaign_laws.proofs.Events.{by_event}
 
 -- where events may come there are devices
 abbrev SomeIn : Section → ℕ → Type 0
@@ -64,41 +59,17 @@ as_many w v k m = record {
   planned = m.planned ∙ k.planned ∙ sym m.devices;
 }
 
-pub sent_many : (w : WorldState) (server : ServerState) (to : Option ℕ) (down : Option DownlinkCommand)
+sent_many : (w : WorldState) (server : ServerState) (to : Option ℕ) (down : Option DownlinkCommand)
     → length server.stages ≡ length w.server.stages → length server.plan.devices ≡ length w.server.plan.devices
-    → IsAsMany w (with_sent (record w { server = server }) to down)
+    → IsAsMany w (at_events (with_sent (record w { server = server }) to down))
 sent_many w server to None stages planned = record { devices = refl; stages = stages; planned = planned }
 sent_many w server to (Some down) stages planned = record { devices = refl; stages = stages; planned = planned }
 
-device_many : (w : WorldState) (n : ℕ) (d : DeviceState) → IsAsMany w (with_device w n d)
+pub event_many : (w : WorldState) (n : ℕ) (d : Option DeviceState) (o : Option Event) → IsAsMany w (at_events (after_event_at w n d o))
 unfolding with_device
-device_many w n d = record { devices = length-set w.devices (n - 1) _; stages = refl; planned = refl }
-
-pub event_many : (w : WorldState) (n : ℕ) (d : Option DeviceState) (o : Option Event) → IsAsMany w (after_event_at w n d o)
 event_many w n None o = record { devices = refl; stages = refl; planned = refl }
 event_many w n (Some d) None = record { devices = refl; stages = refl; planned = refl }
-event_many w n (Some d) (Some e) = device_many w n (event_step d e)
-
-fragment_by : (s : ServerState) (b : Bool) → (length (cond b (after_count (record s { next = s.next + 1 })) s).stages
-    ≡ length s.stages) × (length (cond b (after_count (record s { next = s.next + 1 })) s).plan.devices
-    ≡ length s.plan.devices)
-fragment_by s true = (refl, refl)
-fragment_by s false = (refl, refl)
-
-fragment_same : (s : ServerState) → (length (server_after_fragment s).stages ≡ length s.stages)
-    × (length (server_after_fragment s).plan.devices ≡ length s.plan.devices)
-unfolding server_after_fragment
-fragment_same s = fragment_by s (is_ok (next_fragment s))
-
-status_by : (s : ServerState) (b : Bool) → (length (cond b (after_count s) s).stages ≡ length s.stages)
-    × (length (cond b (after_count s) s).plan.devices ≡ length s.plan.devices)
-status_by s true = (refl, refl)
-status_by s false = (refl, refl)
-
-status_same : (s : ServerState) → (length (after_status_to_all s).stages ≡ length s.stages)
-    × (length (after_status_to_all s).plan.devices ≡ length s.plan.devices)
-unfolding after_status_to_all
-status_same s = status_by s (is_some (status_to_all s))
+event_many w n (Some d) (Some e) = record { devices = length-set w.devices (n - 1) _; stages = refl; planned = refl }
 
 moved_many : (s : ServerState) (dev : ℕ) (cs : List Command) (o : Option Stage)
     → (length (with_answers s dev cs o).stages ≡ length s.stages)
@@ -106,18 +77,14 @@ moved_many : (s : ServerState) (dev : ℕ) (cs : List Command) (o : Option Stage
 moved_many s dev cs None = (refl, refl)
 moved_many s dev cs (Some stage) = (length-set s.stages (dev - 1) _, refl)
 
-read_many : (w : WorldState) (dev t : ℕ) (r : Reading) → IsAsMany w (after_answer w dev (read_uplink w.server dev t r))
-unfolding read_uplink
-read_many w dev t (Ok cs) =
+pub made_many : (w : WorldState) (form : Form) → is_event_or_end form ≡ true → IsAsMany w (after_form w form)
+made_many w =
+    by_event (IsAsMany w) w (λ time here late. record { devices = refl; stages = refl; planned = refl })
+    (λ n form. event_many w n (numbered w.devices n) (event_of w.server.plan.group w.sent w.time (w.lines + 1) form))
+    (λ s to down sends. sent_many w s to down (ap (λ (xs : List Stage). length xs) sends.stages) (ap (λ (p : Plan). length p.devices) sends.plan))
+    (λ dev cs.
     let m = moved_many w.server dev cs (ledger w.server dev) in
-    sent_many w (with_answers w.server dev cs (ledger w.server dev)) (Some dev) _ m.0 m.1
-read_many w dev t (Err refusal) = record { devices = refl; stages = refl; planned = refl }
-
-pub up_many : (w : WorldState) (o : Option NumberedUplink) → IsAsMany w (after_up w o)
-unfolding uplink_step
-up_many w None = record { devices = refl; stages = refl; planned = refl }
-up_many w (Some made) =
-    read_many w made.device w.time (reading_of made.uplink.port Upwards made.uplink.payload)
+    sent_many w (with_answers w.server dev cs (ledger w.server dev)) (Some dev) _ m.0 m.1)
 
 -- ---- a form
 
@@ -129,19 +96,16 @@ some_there w form event may k = elim (event_at w.section form event may) [
   | inr is ↦ subst (λ (s : Section). SomeIn s (length w.devices)) is k
 ]
 
-event_counted : (w v : WorldState) (form : Form) → is_event_or_end form ≡ true → is_in_order w.section form ≡ true
-    → IsCounted w → IsAsMany w v → IsCounted (at_events v)
-event_counted w v form event may k m = record {
-  some = subst (λ (n : ℕ). 1 ≤ n) (sym m.devices) (some_there w form event may k.some);
-  even = record { stages = (as_many w v k.even m).stages; planned = (as_many w v k.even m).planned };
-}
+begun_some : (n : ℕ) (here : Section) → has_begun here ≡ true → 1 ≤ n → SomeIn here n
+begun_some n =
+    by_section (λ (here : Section). has_begun here ≡ true → 1 ≤ n → SomeIn here n) never never never never never never (λ begun some. some) (λ begun some. some)
 
--- what a form lets happen at a device
-form_event_counted : (w : WorldState) (n : ℕ) (form : Form) → is_event_or_end form ≡ true → is_in_order w.section form ≡ true
-    → IsCounted w → IsCounted (with_event_of w n form)
-form_event_counted w n form event may k =
-    let o = event_of w.server.plan.group w.sent w.time (w.lines + 1) form in
-    event_counted w (after_event_at w n (numbered w.devices n) o) form event may k (event_many w n (numbered w.devices n) o)
+event_counted : (w v : WorldState) (form : Form) → is_event_or_end form ≡ true → is_in_order w.section form ≡ true
+    → IsCounted w → IsAsMany w v → has_begun v.section ≡ true → IsCounted v
+event_counted w v form event may k m begun = record {
+  some = begun_some _ v.section begun (subst (λ (n : ℕ). 1 ≤ n) (sym m.devices) (some_there w form event may k.some));
+  even = as_many w v k.even m;
+}
 
 -- a plan in which as many devices are planned as there are
 planned_even : (plan : Plan) (n : ℕ) → length plan.devices ≡ n
@@ -179,42 +143,7 @@ form_counted w (Device id class hw rows offset key descriptor v1 k11 flash) fine
         planned = planned;
       };
     }
-form_counted w (At time) fine k =
-    event_counted w (record w { time = time }) (At time) refl (passes w (At time) fine).comes k
-    (record { devices = refl; stages = refl; planned = refl })
-form_counted w (Power device) fine k =
-    event_counted w w (Power device) refl (passes w (Power device) fine).comes k
-    (record { devices = refl; stages = refl; planned = refl })
-form_counted w (Wake device) fine k =
-    form_event_counted w device (Wake device) refl (passes w (Wake device) fine).comes k
-form_counted w (Migrate device) fine k =
-    form_event_counted w device (Migrate device) refl (passes w (Migrate device) fine).comes k
-form_counted w (Ask device) fine k =
-    event_counted w (with_sent w (Some device) (request_of w.server device)) (Ask device) refl
-    (passes w (Ask device) fine).comes k (sent_many w w.server (Some device) (request_of w.server device) refl refl)
-form_counted w Frag fine k =
-    let same = fragment_same w.server in
-    event_counted w (with_sent (record w { server = server_after_fragment w.server }) None
-    (result_ok (next_fragment w.server))) Frag refl (passes w Frag fine).comes k
-    (sent_many w (server_after_fragment w.server) None (result_ok (next_fragment w.server)) same.0 same.1)
-form_counted w Status fine k =
-    let same = status_same w.server in
-    event_counted w (with_sent (record w { server = after_status_to_all w.server }) None (status_to_all w.server)) Status
-    refl (passes w Status fine).comes k
-    (sent_many w (after_status_to_all w.server) None (status_to_all w.server) same.0 same.1)
-form_counted w (Down number device word) fine k =
-    let form : Form = Down number device word in form_event_counted w device form refl (passes w form fine).comes k
-form_counted w (Raw device port payload word) fine k =
-    let form : Form = Raw device port payload word in form_event_counted w device form refl (passes w form fine).comes k
-form_counted w (Air number device word) fine k =
-    let form : Form = Air number device word in form_event_counted w device form refl (passes w form fine).comes k
-form_counted w (RawAir device bytes word) fine k =
-    let form : Form = RawAir device bytes word in form_event_counted w device form refl (passes w form fine).comes k
-form_counted w (Up number) fine k =
-    event_counted w (after_up w (numbered w.uplinks number)) (Up number) refl (passes w (Up number) fine).comes k
-    (up_many w (numbered w.uplinks number))
-form_counted w End fine k =
-    record { some = some_there w End refl (passes w End fine).comes k.some; even = k.even }
+form_counted w form fine k = event_counted w (after_form w form) form refl (passes w form fine).comes k (made_many w form refl) refl
 
 -- ---- a script
 
@@ -229,8 +158,8 @@ said_counted w (Own form) fine k = form_counted w form fine k
 said_counted w Elsewhere fine k = k
 said_counted w (Reached n word down) fine k =
     let o : Option Event = Some (Receives w.time word (w.lines + 1) down) in
-    event_counted w (after_event_at w n (numbered w.devices n) o) (Wake 1) refl
-    (takes_wake w.section (reached_passes w n word down fine).0) k (event_many w n (numbered w.devices n) o)
+    event_counted w (with_event w n o) (Wake 1) refl
+    (takes_wake w.section (reached_passes w n word down fine).0) k (event_many w n (numbered w.devices n) o) refl
 
 lines_counted : (w : WorldState) (line : Line) → line_cause w line ≡ None → IsCounted w → IsCounted (after_line w line)
 lines_counted w (Err cause) fine k = absurd cc

@@ -1,13 +1,15 @@
 -- What both ends of a campaign keep: a device has no session but the server's, and the server sends the image.
-use Rattle.std.proofs.Common.{◌≡◌, inl, inr, ℕ, ◌+◌, ◌≤◌, Bool, true, false, cond, nat_lt, List, [], ◌∷◌, length, Option, None, Some, IfSome, is_ok, is_some, Result, Ok, Err, refl, sym, ap, ◌∙◌, subst, arith, ◌/◌, ltb-false}
+use Rattle.std.proofs.Common.{◌≡◌, inl, inr, ℕ, ◌+◌, ◌≤◌, Bool, true, false, cond, nat_lt, List, [], ◌∷◌, length, Option, None, Some, IfSome, is_ok, is_some, Result, Ok, Err, refl, sym, ap, ◌∙◌, subst, arith, ◌/◌, ltb-false, All, ◌⊎◌, ◌<◌, ◌^◌}
 use Rattle.std.specs.Result.{result_ok}
 use Rattle.std.specs.List.{AllByRecursion}
+use Rattle.std.proofs.lemmas.Option.{IfSome_then}
 use Rattle.frag_session.specs.declared.setups.Limits.{Limits}
 use Rattle.frag_session.specs.declared.answers.Via.{Via}
 use Rattle.frag_session.specs.Setup.{Room, rows_of}
-use Rattle.frag_session.specs.Session.{Session, new_session, after_setup, followed, after_fragment}
+use Rattle.frag_session.specs.Session.{Session, new_session, after_setup, followed, after_fragment, shape_of}
 use Rattle.frag_session.specs.HeldHistory.{IsSetUp}
-use Rattle.frag_encoder.specs.Encoding.{nb_frag_of, data_of}
+use Rattle.frag_encoder.specs.Encoding.{nb_frag_of, data_of, padding_of}
+use Rattle.cast_wire.specs.declared.cmd.Cmd.TheVariants.{FragSessionStatusReq}
 use Rattle.sync_wire.specs.declared.cmd.Cmd.TheVariants.{AppTimeReq, AppTimeAns, DevVersionReq}
 use Rattle.clock_sync.specs.Clock.{correction_of, is_answer_needed}
 use Rattle.package_grammar.specs.declared.command.Command.{Command}
@@ -40,6 +42,8 @@ use Rattle.campaign_laws.proofs.OwnSession.{at_own, at_other}
 use Rattle.device_core.proofs.Stays.{Moves, Stays}
 use Rattle.campaign_laws.proofs.HeadlinePayloads.{Acts}
 use Rattle.campaign_laws.specs.Headline.{HasNoOther, IsFragmentOf}
+use Rattle.campaign_laws.proofs.HeadlineImage.{IsShapeFor}
+use Rattle.frag_session.specs.declared.setups.SetupReq.{SetupReq}
 
 -- ---- a session
 
@@ -48,6 +52,28 @@ pub record IsSetFor (image : List ℕ) (cut : Cut) (s : Session) : Type 0 where
   pub setup : s.setup ≡ setup_req image cut
   pub makes : IsSetUp (setup_req image cut)
   pub heard : AllByRecursion (IsFragmentOf image cut.size) s.heard
+
+-- the session's shape is the image's
+pub shape_for : (image : List ℕ) (whole : Cut) (s : Session) → All (λ b. b < 2 ^ 8) image → IsSetFor image whole s
+    → IsShapeFor image (shape_of s) s.setup.padding × ((shape_of s).frag_size ≡ whole.size)
+unfolding shape_of
+shape_for image whole s bytes k =
+    let size : ℕ = whole.size in
+    let cut : s.setup.frag_size ≡ size = ap (λ (r : SetupReq). r.frag_size) k.setup in
+    let count : s.setup.nb_frag ≡ nb_frag_of (length image) size = ap (λ (r : SetupReq). r.nb_frag) k.setup in
+    let pad : s.setup.padding ≡ padding_of (length image) size = ap (λ (r : SetupReq). r.padding) k.setup in (
+      record {
+        count = count ∙ ap (nb_frag_of (length image)) (sym cut);
+        padded = pad ∙ ap (padding_of (length image)) (sym cut);
+        makes = record {
+          some = subst (λ (n : ℕ). 0 < n) (sym count) k.makes.some;
+          short = subst (λ (n : ℕ). s.setup.padding < n) (sym cut)
+              (subst (λ (n : ℕ). n < size) (sym pad) k.makes.short);
+        };
+        bytes = bytes;
+      },
+      cut,
+    )
 
 fresh : (image : List ℕ) (cut : Cut) (limits : Limits) → IsSetUp (setup_req image cut)
     → IsSetFor image cut (new_session limits (setup_req image cut))
@@ -227,7 +253,7 @@ counted_by : (P : DownlinkCommand → Type 0) (b : Bool) (down : DownlinkCommand
 counted_by P true down k = tt
 counted_by P false down k = k
 
-pub next_by : (P : DownlinkCommand → Type 0) (image : List ℕ) (cut : Cut) (parity next count : ℕ) (group : Option PlanGroup) (b : Bool)
+next_by : (P : DownlinkCommand → Type 0) (image : List ℕ) (cut : Cut) (parity next count : ℕ) (group : Option PlanGroup) (b : Bool)
     → nat_lt (nb_frag_of (length image) cut.size + parity) next ≡ b → 1 ≤ next → parity ≤ 512
     → (IsNumber image cut.size next → P (record { to = receivers group count; command = fragment_command image cut next }))
     → IfSome (result_ok (cond {A = Result DownlinkCommand Spent} b (Err Fragments)
@@ -238,21 +264,42 @@ next_by P image cut parity next count group false is from few one =
     let last = ltb-false _ _ is in
     counted_by P (has_no_count group count) _ (one (from, omega (arith, last, few)))
 
+-- what it sends to all: a fragment of its image, or a status request, of its own index
+abbrev pub IsToAll : (image : List ℕ) → Cut → DownlinkCommand → Type 0
+IsToAll image cut down =
+    ((n : ℕ) × IsNumber image cut.size n × (down.command ≡ fragment_command image cut n))
+    ⊎ ((all : Bool) × (down.command ≡ Cast (FragSessionStatusReq cut.index all)))
+
+goes_down : (image : List ℕ) (cut : Cut) (down : DownlinkCommand) → IsToAll image cut down → IsDown image cut down
+goes_down image cut down (inl fragment) = inr (inl fragment)
+goes_down image cut down (inr status) = inr (inr (inl status))
+
+pub fragment_to_all : (image : List ℕ) (s : ServerState) → IsServerOf image s
+    → IfSome (result_ok (next_fragment s)) (IsToAll image (cut_of s.plan))
+unfolding next_fragment
+fragment_to_all image s k =
+    subst (λ (i : List ℕ). IfSome (result_ok (next_fragment s)) (IsToAll i (cut_of s.plan))) k.image_is
+    (next_by (IsToAll s.image (cut_of s.plan)) s.image (cut_of s.plan) s.plan.parity s.next s.count s.plan.group _ refl k.next k.few
+    (λ fine. inl (s.next, fine, refl)))
+
 pub fragment_sent : (image : List ℕ) (s : ServerState) → IsServerOf image s
     → IfSome (result_ok (next_fragment s)) (IsDown image (cut_of s.plan))
-unfolding next_fragment
 fragment_sent image s k =
-    subst (λ (i : List ℕ). IfSome (result_ok (next_fragment s)) (IsDown i (cut_of s.plan))) k.image_is
-    (next_by (IsDown s.image (cut_of s.plan)) s.image (cut_of s.plan) s.plan.parity s.next s.count s.plan.group _ refl k.next k.few
-    (λ fine. inr (inl (s.next, fine, refl))))
+    IfSome_then (result_ok (next_fragment s)) {P = IsToAll image (cut_of s.plan)} {Q = IsDown image (cut_of s.plan)}
+    (fragment_to_all image s k) (goes_down image (cut_of s.plan))
 
-pub all_by : (P : DownlinkCommand → Type 0) (b : Bool) (down : DownlinkCommand) → P down → IfSome (cond b None (Some down)) P
+all_by : (P : DownlinkCommand → Type 0) (b : Bool) (down : DownlinkCommand) → P down → IfSome (cond b None (Some down)) P
 all_by P true down k = tt
 all_by P false down k = k
 
-pub status_sent : (image : List ℕ) (s : ServerState) → IfSome (status_to_all s) (IsDown image (cut_of s.plan))
+pub status_to_each : (image : List ℕ) (s : ServerState) → IfSome (status_to_all s) (IsToAll image (cut_of s.plan))
 unfolding status_to_all
-status_sent image s = all_by (IsDown image (cut_of s.plan)) (has_no_count s.plan.group s.count) _ (inr (inr (inl (false, refl))))
+status_to_each image s = all_by (IsToAll image (cut_of s.plan)) (has_no_count s.plan.group s.count) _ (inr (false, refl))
+
+pub status_sent : (image : List ℕ) (s : ServerState) → IfSome (status_to_all s) (IsDown image (cut_of s.plan))
+status_sent image s =
+    IfSome_then (status_to_all s) {P = IsToAll image (cut_of s.plan)} {Q = IsDown image (cut_of s.plan)}
+    (status_to_each image s) (goes_down image (cut_of s.plan))
 
 -- the server goes on, and cuts alike
 pub record GoesOn (image : List ℕ) (s new : ServerState) : Type 0 where

@@ -1,11 +1,11 @@
 -- What each line that is not refused makes of a campaign.
-use Rattle.std.proofs.Common.{◌&&◌, nat_le, nat_lt, ◌≡◌, ◌⊎◌, inl, inr, ℕ, zero, suc, ◌+◌, ◌-◌, ◌^◌, ◌<◌, ◌≤◌, Bool, true, false, cond, not, ◌==◌, List, [], ◌∷◌, length, All, slice_get, Option, None, Some, IfSome, Ok, Err, append-nil, refl, sym, ap, ◌∙◌, subst, arith, true≢false, eqb-true}
+use Rattle.std.proofs.Common.{◌&&◌, nat_le, nat_lt, ◌≡◌, ◌⊎◌, inl, inr, ℕ, ◌+◌, ◌-◌, ◌^◌, ◌<◌, ◌≤◌, Bool, true, false, cond, not, ◌==◌, List, [], ◌∷◌, length, All, Option, None, Some, IfSome, append-nil, refl, sym, ap, ◌∙◌, subst, arith, true≢false, eqb-true, ◌++◌}
 use Rattle.std.proofs.lemmas.Bool.{leb-true, and_parts}
 use Rattle.std.specs.Result.{result_ok}
 use Rattle.std.specs.List.{AllByRecursion, slice_set}
 use Rattle.frag_encoder.specs.Encoding.{nb_frag_of}
 use Rattle.package_grammar.specs.declared.downlink.Downlink.{Downlink}
-use Rattle.package_grammar.specs.Reading.{Reading, reading_of}
+use Rattle.package_grammar.specs.Reading.{reading_of}
 use Rattle.wire_base.specs.declared.refusal.Direction.TheVariants as direction
 use Rattle.device_core.specs.Device.{DeviceState}
 use Rattle.frag_model.specs.Limits.{max_pieces}
@@ -19,7 +19,7 @@ use Rattle.wire_base.specs.Numbered.{numbered}
 use Rattle.campaign_server.specs.Asking.{by_unicast, request_of}
 use Rattle.campaign_server.specs.Fragments.{next_fragment, after_fragment as server_after_fragment, status_to_all, after_status_to_all}
 use Rattle.campaign_server.specs.Time.{time_answer}
-use Rattle.campaign_server.specs.Uplinks.{with_answers, read_uplink, uplink_step}
+use Rattle.campaign_server.specs.Uplinks.{with_answers}
 use Rattle.script_lines.specs.declared.forms.Form.{Form}
 use Rattle.script_lines.specs.declared.forms.Form.TheVariants.{Header, Image, Group, WindowC, WindowB, Device, At as Time, Wake, Migrate, Power, Ask, Frag, Status, Down, Raw, Air, RawAir, Up, End}
 use Rattle.script_lines.specs.Ranges.{in_range, is_device as ranged}
@@ -31,7 +31,7 @@ use Rattle.campaign_world.specs.declared.numbered.NumberedUplink.{NumberedUplink
 use Rattle.campaign_world.specs.World.{WorldState}
 use Rattle.campaign_world.specs.Said.{Said, Own, Elsewhere, Reached}
 use Rattle.campaign_world.specs.Causes.{is_in_order, fits_script, is_device, names_device, has_flash, may_reach, is_available, form_cause, takes_events, said_cause}
-use Rattle.campaign_world.specs.Making.{with_sent, with_device, with_event, with_event_of, after_answer, after_up, at_events, after_form, after_said}
+use Rattle.campaign_world.specs.Making.{with_sent, with_device, with_event, with_event_of, after_up, at_events, after_form, after_said}
 use Rattle.campaign_world.specs.Honest.{are_for_others}
 use Rattle.campaign_server.proofs.Plans.{few_masks}
 use Rattle.campaign_server.proofs.LineItems.{if_some, numbered_put, numbered_there}
@@ -42,6 +42,8 @@ use Rattle.campaign_laws.proofs.HeadlineEnds.{IsDeviceFor, IsServerOf, IsDown, a
 use Rattle.campaign_laws.proofs.Crossing.{crossing_stays}
 use Rattle.campaign_laws.proofs.HeadlineWorlds.{IsPayloadOf, StandsIn, Keeps, is_down, HasStayed, Turns}
 use Rattle.campaign_world.proofs.Sections.{by_section, never}
+use Rattle.campaign_laws.proofs.Events.{up_by}
+use Rattle.campaign_laws.proofs.Items.{all_numbered, is_there}
 
 -- ---- a form that is not refused
 
@@ -116,96 +118,45 @@ cut_on : (s new : ServerState) → new.plan ≡ s.plan → cut_of new.plan ≡ c
 cut_on s new same = ap (λ (p : Plan). cut_of p) same
 
 -- what is sent
+more_turn : (image : List ℕ) (said : Said) (w : WorldState) (s : ServerState) (more : List SentPayload) → is_down said ≡ false
+    → GoesOn image w.server s → IsCut image (cut_of w.server.plan) → AllByRecursion (IsPayloadOf image (cut_of w.server.plan)) more
+    → Turns image said w (at_events (record w { server = s; sent = w.sent ++ more }))
+more_turn image said w s more other goes cut fine = record {
+  lines = refl;
+  server = goes.is;
+  stands = subst (IsCut image) (sym (cut_on w.server s goes.plan)) cut;
+  how = inl (record {
+    other = other;
+    cut = cut_on w.server s goes.plan;
+    devices = λ id. inl refl;
+    more = more;
+    sent = refl;
+    fine = fine;
+  });
+}
+
 sends_turn : (image : List ℕ) (said : Said) (w : WorldState) (s : ServerState) (to : Option ℕ)
     (o : Option DownlinkCommand) → is_down said ≡ false → GoesOn image w.server s
     → IsCut image (cut_of w.server.plan) → IfSome o (IsDown image (cut_of w.server.plan))
     → Turns image said w (at_events (with_sent (record w { server = s }) to o))
-sends_turn image said w s to None other goes cut fine = record {
-  lines = refl;
-  server = goes.is;
-  stands = subst (IsCut image) (sym (cut_on w.server s goes.plan)) cut;
-  how = inl (record {
-    other = other;
-    cut = cut_on w.server s goes.plan;
-    devices = λ id. inl refl;
-    more = [];
-    sent =
-        sym (append-nil w.sent);
-    fine = tt;
-  });
-}
-sends_turn image said w s to (Some down) other goes cut fine = record {
-  lines = refl;
-  server = goes.is;
-  stands = subst (IsCut image) (sym (cut_on w.server s goes.plan)) cut;
-  how = inl (record {
-    other = other;
-    cut = cut_on w.server s goes.plan;
-    devices = λ id. inl refl;
-    more = record { receiver = to; down = downlink_of down } ∷ [];
-    sent = refl;
-    fine = ((down, fine, refl), tt);
-  });
-}
-
-read_turn : (image : List ℕ) (said : Said) (w : WorldState) (dev t : ℕ) (r : Reading) → is_down said ≡ false
-    → IsServerOf image w.server → IsCut image (cut_of w.server.plan)
-    → Turns image said w (at_events (after_answer w dev (read_uplink w.server dev t r)))
-unfolding read_uplink
-read_turn image said w dev t (Ok cs) other k cut =
-    sends_turn image said w (with_answers w.server dev cs (ledger w.server dev)) (Some dev)
-    (by_unicast (time_answer t cs)) other (answers_go image w.server dev cs (ledger w.server dev) k) cut
-    (time_sent image (cut_of w.server.plan) t cs)
-read_turn image said w dev t (Err refusal) other k cut =
-    sends_turn image said w w.server None None other (record { is = k; plan = refl }) cut tt
+sends_turn image said w s to None other goes cut fine =
+    subst (λ (sent : List SentPayload). Turns image said w (at_events (record w { server = s; sent = sent }))) (append-nil w.sent)
+    (more_turn image said w s [] other goes cut tt)
+sends_turn image said w s to (Some down) other goes cut fine =
+    more_turn image said w s (record { receiver = to; down = downlink_of down } ∷ []) other goes cut ((down, fine, refl), tt)
 
 up_turn : (image : List ℕ) (said : Said) (w : WorldState) (o : Option NumberedUplink) → is_down said ≡ false
     → IsServerOf image w.server → IsCut image (cut_of w.server.plan)
     → Turns image said w (at_events (after_up w o))
-unfolding uplink_step
-up_turn image said w None other k cut =
-    sends_turn image said w w.server None None other (record { is = k; plan = refl }) cut tt
-up_turn image said w (Some made) other k cut =
-    read_turn image said w made.device w.time (reading_of made.uplink.port direction.Up made.uplink.payload) other k cut
-
--- a number that a device has
-pub number_there : (count n : ℕ) → is_device count n ≡ true → (1 ≤ n) × (n ≤ count)
-number_there count n is = let parts =
-    and_parts (nat_le 1 n) (nat_le n count) is in (leb-true _ _ parts.0, leb-true _ _ parts.1)
-
-get_device : (ds : List DeviceState) (k : ℕ) → k < length ds → (d : DeviceState) × (slice_get ds k ≡ Some d)
-get_device [] k lt = absurd (omega (arith, lt))
-get_device (d ∷ ds) zero lt = (d, refl)
-get_device (d ∷ ds) (suc k) lt = get_device ds k (omega (arith, lt))
-
-device_by : (ds : List DeviceState) (n : ℕ) (b : Bool) → (n == 0) ≡ b → (1 ≤ n) × (n ≤ length ds)
-    → (d : DeviceState) × (cond b None (slice_get ds (n - 1)) ≡ Some d)
-device_by ds n true is there = let none : n ≡ 0 = eqb-true _ _ is in absurd (omega (arith, none, there.0))
-device_by ds n false is there = get_device ds (n - 1) (omega (arith, there.0, there.1))
-
--- so it has one
-pub device_there : (ds : List DeviceState) (n : ℕ) → (1 ≤ n) × (n ≤ length ds)
-    → (d : DeviceState) × (numbered ds n ≡ Some d)
-device_there ds n there = device_by ds n (n == 0) refl there
+up_turn image said w o other k cut =
+    up_by (Turns image said w) w (sends_turn image said w w.server None None other (record { is = k; plan = refl }) cut tt)
+    (λ dev cs. sends_turn image said w (with_answers w.server dev cs (ledger w.server dev)) (Some dev)
+    (by_unicast (time_answer w.time cs)) other (answers_go image w.server dev cs (ledger w.server dev) k) cut
+    (time_sent image (cut_of w.server.plan) w.time cs)) o
 
 pub payload_there : (device : ℕ) (o : Option SentPayload) → may_reach device o ≡ true → (p : SentPayload) × (o ≡ Some p)
 payload_there device None may = absurd cc
 payload_there device (Some p) may = (p, refl)
-
-all_get : {A : Type 0} (P : A → Type 0) (xs : List A) (n : ℕ) (x : A) → AllByRecursion P xs → slice_get xs n ≡ Some x
-    → P x
-all_get P [] n x all is = absurd cc
-all_get P (y ∷ ys) zero x all is = let here : y ≡ x = cc in subst P here all.0
-all_get P (y ∷ ys) (suc n) x all is = all_get P ys n x all.1 is
-
-all_by_test : {A : Type 0} (P : A → Type 0) (xs : List A) (b : Bool) (k : ℕ) (x : A) → AllByRecursion P xs
-    → cond b None (slice_get xs k) ≡ Some x → P x
-all_by_test P xs true k x all is = absurd cc
-all_by_test P xs false k x all is = all_get P xs k x all is
-
-pub all_numbered : {A : Type 0} (P : A → Type 0) (xs : List A) (n : ℕ) (x : A) → AllByRecursion P xs
-    → numbered xs n ≡ Some x → P x
-all_numbered P xs n x all is = all_by_test P xs (n == 0) (n - 1) x all is
 
 -- the device after an event, its uplinks taken
 abbrev taken : DeviceState → DeviceState
@@ -417,14 +368,14 @@ form_turn image w (Power device) bytes k fine honest =
     (late_cut image w (Power device) w.section refl (passes w (Power device) fine).may k.stands) refl refl refl refl
 form_turn image w (Wake device) bytes k fine honest =
     let p = passes w (Wake device) fine in
-    let there = number_there (length w.devices) device p.names in
-    let d = device_there w.devices device there in
+    let there = is_there w.devices device p.names in
+    let d = there.1 in
     quiet_turn image w device (Own (Wake device)) d.0 (Wakes w.time) refl k
     (late_cut image w (Wake device) w.section refl p.may k.stands) there.0 d.1 (waking_stays w.time d.0)
 form_turn image w (Migrate device) bytes k fine honest =
     let p = passes w (Migrate device) fine in
-    let there = number_there (length w.devices) device p.names in
-    let d = device_there w.devices device there in
+    let there = is_there w.devices device p.names in
+    let d = there.1 in
     quiet_turn image w device (Own (Migrate device)) d.0 Migrates refl k
     (late_cut image w (Migrate device) w.section refl p.may k.stands) there.0 d.1 (migration_stays d.0)
 form_turn image w (Ask device) bytes k fine honest =
@@ -443,8 +394,8 @@ form_turn image w Status bytes k fine honest =
     (status_sent image w.server)
 form_turn image w (Down number device word) bytes k fine honest =
     let p = passes w (Down number device word) fine in
-    let there = number_there (length w.devices) device p.names in
-    let d = device_there w.devices device there in
+    let there = is_there w.devices device p.names in
+    let d = there.1 in
     let s = payload_there device (numbered w.sent number) p.come in
     reached_turn image w number device word d.0 s.0 bytes k
     (late_cut image w (Down number device word) w.section refl p.may k.stands) there.0 d.1 s.1
@@ -491,8 +442,8 @@ said_turn image w (Own form) bytes k fine plain = form_turn image w form bytes k
 said_turn image w Elsewhere bytes k fine plain = still_turn image Elsewhere w w refl k.server k.stands refl refl refl refl
 said_turn image w (Reached n word down) bytes k fine plain =
     let p = reached_passes w n word down fine in
-    let there = number_there (length w.devices) n p.1 in
-    let d = device_there w.devices n there in
+    let there = is_there w.devices n p.1 in
+    let d = there.1 in
     let its = if_some (IsDeviceFor image (cut_of w.server.plan)) (numbered w.devices n) d.0 d.1 (k.devices n) in
     quiet_turn image w n (Reached n word down) d.0 (Receives w.time word (w.lines + 1) down) refl k
     (events_cut image w w.section p.0 k.stands) there.0 d.1

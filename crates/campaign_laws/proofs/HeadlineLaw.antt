@@ -4,7 +4,7 @@ use Rattle.std.specs.List.{AllByRecursion}
 use Rattle.std.proofs.lemmas.Slice.Eq.{bytes_eq-Decides}
 use Rattle.frag_model.specs.Fragments.{Fragment, Shape}
 use Rattle.frag_model.specs.File.{OneFileFits}
-use Rattle.frag_encoder.specs.Encoding.{nb_frag_of, padding_of}
+use Rattle.frag_encoder.specs.Encoding.{nb_frag_of}
 use Rattle.frag_session.specs.declared.answers.Verdict.{Verdict}
 use Rattle.frag_session.specs.declared.answers.Verdict.TheVariants as verdict
 use Rattle.frag_session.specs.declared.setups.SetupReq.{SetupReq}
@@ -31,36 +31,14 @@ use Rattle.campaign_laws.specs.Recovers.{RecoversTheImage}
 use Rattle.campaign_world.specs.Honest.{AreHonest}
 use Rattle.campaign_laws.specs.Fields.{AllFit}
 use Rattle.campaign_laws.specs.Headline.{WholeAt, HasNoOther, IsOfItsLine, IsFragmentOf, IsServed, Brings, CameInOrder, setup_command, HearsBrought, IsRecovered, IsReported, IsCampaign, Headline}
-use Rattle.campaign_laws.proofs.HeadlineCommands.{Cut, cut_of, setup_request}
-use Rattle.campaign_laws.proofs.HeadlineEnds.{IsSetFor, IsServerOf}
+use Rattle.campaign_laws.proofs.HeadlineCommands.{cut_of, setup_request}
+use Rattle.campaign_laws.proofs.HeadlineEnds.{IsSetFor, shape_for, IsServerOf}
 use Rattle.campaign_server.proofs.LineItems.{if_some}
 use Rattle.campaign_laws.proofs.HeadlineLines.{campaign_reads, campaign_device, campaign_session, campaign_came}
 use Rattle.campaign_laws.proofs.HeadlineHeard.{campaign_hears}
 use Rattle.campaign_laws.proofs.Configured.{is_configured}
 use Rattle.campaign_laws.proofs.IndexedLines.{index_is}
 use Rattle.campaign_laws.proofs.HeadlineImage.{IsShapeFor, image_fits, alone_is_image, behind}
-
--- the session's shape is the image's
-pub shape_for : (image : List ℕ) (whole : Cut) (s : Session) → All (λ b. b < 2 ^ 8) image → IsSetFor image whole s
-    → IsShapeFor image (shape_of s) s.setup.padding × ((shape_of s).frag_size ≡ whole.size)
-unfolding shape_of
-shape_for image whole s bytes k =
-    let size : ℕ = whole.size in
-    let cut : s.setup.frag_size ≡ size = ap (λ (r : SetupReq). r.frag_size) k.setup in
-    let count : s.setup.nb_frag ≡ nb_frag_of (length image) size = ap (λ (r : SetupReq). r.nb_frag) k.setup in
-    let pad : s.setup.padding ≡ padding_of (length image) size = ap (λ (r : SetupReq). r.padding) k.setup in (
-      record {
-        count = count ∙ ap (nb_frag_of (length image)) (sym cut);
-        padded = pad ∙ ap (padding_of (length image)) (sym cut);
-        makes = record {
-          some = subst (λ (n : ℕ). 0 < n) (sym count) k.makes.some;
-          short = subst (λ (n : ℕ). s.setup.padding < n) (sym cut)
-              (subst (λ (n : ℕ). n < size) (sym pad) k.makes.short);
-        };
-        bytes = bytes;
-      },
-      cut,
-    )
 
 only_image : (image : List ℕ) (shape : Shape) (padding : ℕ) (heard newer older : List Fragment) (file : List ℕ)
     → IsShapeFor image shape padding → AllByRecursion (IsFragmentOf image shape.frag_size) heard

@@ -199,19 +199,12 @@ heard_in image lines w world id d device to read there l =
 
 -- ---- a setup
 
+self_eqb : (n : ℕ) → (n == n) ≡ true
+self_eqb n = eq-eqb n n refl
+
 same_self : (r : SetupReq) → same_setup r r ≡ true
 unfolding same_setup
-same_self r =
-    rw (
-      eq-eqb r.index r.index refl,
-      eq-eqb r.mask r.mask refl,
-      eq-eqb r.nb_frag r.nb_frag refl,
-      eq-eqb r.frag_size r.frag_size refl,
-      eq-eqb r.algo r.algo refl,
-      eq-eqb r.delay r.delay refl,
-      eq-eqb r.padding r.padding refl,
-      eq-eqb r.descriptor r.descriptor refl,
-    ) refl
+same_self r = simp self_eqb
 
 stays_same : (limits : Limits) (s : Session) (req : SetupReq) → s.setup ≡ req → renewed limits (Some s) req ≡ s
 unfolding renewed

@@ -73,7 +73,7 @@ no_bits image d made plain =
     let f : nat_le (64 * ((m + 63) / 64)) row_words ≡ true = (let small : (m + 63) / 64 ≤ 3 = omega (arith, h.high) in grind (arith, small)) in
     let g : nat_le (m * 64) max_area ≡ true = grind (arith, h.high) in
     let n : nat_le m max_pieces ≡ true = grind (arith, h.high) in
-    rw (plain.sessions, plain.rows, plain.descriptor, plain.area, plain.memory, a, b, c, e, f, g, n) refl
+    rw (plain.config.sessions, plain.config.rows, plain.config.descriptor, plain.config.area, plain.config.memory, a, b, c, e, f, g, n) refl
 
 pub record IsNew (d : DeviceState) : Type 0 where
   pub plain : IsPlain d
@@ -91,7 +91,7 @@ set_up image made = let h = pieces image made in record { some = omega (arith, h
 new_is_ours : (image : List ℕ) (d : DeviceState) → IsMade image → IsPlain d → IsOurs image (new_session (limits_of d.config) (setup_req image cut))
 unfolding new_session
 new_is_ours image d made plain =
-    let rows : min d.config.rows (count_of image) ≡ 64 = omega (arith, plain.rows, (pieces image made).low) in
+    let rows : min d.config.rows (count_of image) ≡ 64 = omega (arith, plain.config.rows, (pieces image made).low) in
     record { set = record { setup = refl; makes = set_up image made; heard = tt }; rows = rows }
 
 -- ---- a device that hears
@@ -207,19 +207,13 @@ hears_fragment image n m m' skipped d s made low high go (at, (x, h, order)) mar
     hearing : IsHearing image y (heard_by image x n mark d)
     hearing = record {
       plain = record {
-        class = h.plain.class;
-        hw = h.plain.hw;
-        rows = h.plain.rows;
-        descriptor = h.plain.descriptor;
-        sessions = h.plain.sessions;
-        area = h.plain.area;
-        memory = h.plain.memory;
+        config = h.plain.config;
         reboot = h.plain.reboot;
         outbox = refl;
       };
       session = refl;
       ours = ours;
       next = λ at whole.
-          rw whole (next_by image (seen_of y).file d.slots d.config.hw (is_complete (seen_of x).verdict) made h.plain.hw (complete_is_image image y at made.bytes ours whole)
+          rw whole (next_by image (seen_of y).file d.slots d.config.hw (is_complete (seen_of x).verdict) made h.plain.config.hw (complete_is_image image y at made.bytes ours whole)
           (λ was. let r = complete_by (seen_of x).verdict was in h.next r.0 r.1));
     }

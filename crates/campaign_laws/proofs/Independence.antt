@@ -1,6 +1,5 @@
 -- Each device for itself.
-use Rattle.std.proofs.Common.{◌≡◌, ◌&&◌, inl, inr, ℕ, zero, suc, ◌+◌, ◌-◌, ◌<◌, ◌≤◌, Bool, true, false, cond, ◌==◌, nat_le, List, [], ◌∷◌, ◌++◌, length, fold, append-nil, append_assoc, slice_get, Option, None, Some, option_map, Ok, Err, refl, sym, ap, ◌∙◌, subst, arith, eqb-true}
-use Rattle.std.proofs.lemmas.Bool.{leb-true, and_parts}
+use Rattle.std.proofs.Common.{◌≡◌, ◌&&◌, inl, inr, ℕ, zero, suc, ◌+◌, ◌-◌, ◌≤◌, Bool, true, false, cond, ◌==◌, List, [], ◌∷◌, ◌++◌, fold, append-nil, append_assoc, slice_get, Option, None, Some, option_map, Ok, Err, refl, sym, ap, ◌∙◌, subst, arith, eqb-true}
 use Rattle.std.specs.Prelude.{filter_map, option_to_list}
 use Rattle.std.specs.List.{slice_set}
 use Rattle.std.specs.Result.{result_ok}
@@ -23,16 +22,17 @@ use Rattle.campaign_world.specs.declared.numbered.SentPayload.{SentPayload}
 use Rattle.campaign_world.specs.declared.numbered.NumberedUplink.{NumberedUplink}
 use Rattle.campaign_world.specs.World.{WorldState, first_world}
 use Rattle.campaign_world.specs.Said.{Said, Own, Elsewhere, Reached, Line}
-use Rattle.campaign_world.specs.Causes.{is_device, may_reach, goes_out, form_cause, said_cause, line_cause, cause_of}
+use Rattle.campaign_world.specs.Causes.{may_reach, goes_out, form_cause, said_cause, line_cause, cause_of}
 use Rattle.campaign_world.specs.Making.{with_sent, with_device, raw_down, reception, sent_frame, hearing, with_event, with_event_of, after_answer, after_up, at_events, after_form, after_said}
 use Rattle.campaign_world.specs.Script.{after_line, line_result, read_line, read_lines, campaign_of}
 use Rattle.device_core.specs.Events.{Event, Wakes, Receives, HearsBytes, Migrates, after_event}
 use Rattle.campaign_laws.specs.Independence.{device_in, first_devices, time_after, event_in, history_of, DevicesAreIndependent}
 use Rattle.campaign_world.proofs.Steps.{reception_of}
 use Rattle.campaign_server.proofs.LineItems.{numbered_more, numbered_put, numbered_there}
-use Rattle.campaign_laws.proofs.HeadlineForms.{passes, reached_passes}
+use Rattle.campaign_laws.proofs.HeadlineForms.{passes, reached_passes, payload_there}
 use Rattle.campaign_laws.proofs.PlanGroups.{is_planning, said_settled, air_settled}
 use Rattle.campaign_laws.proofs.HeadlineLines.{cause_by, end_is}
+use Rattle.campaign_laws.proofs.Items.{is_there}
 
 -- ---- lines that are read
 
@@ -75,28 +75,6 @@ set_by xs ys k x y false is = get_set xs ys k x y is
 set_front : {A : Type 0} (xs ys : List A) (n : ℕ) (x y : A) → numbered xs n ≡ Some x
     → slice_set xs (n - 1) y ++ ys ≡ slice_set (xs ++ ys) (n - 1) y
 set_front xs ys n x y is = set_by xs ys (n - 1) x y (n == 0) is
-
-get_there : {A : Type 0} (xs : List A) (k : ℕ) → k < length xs → (x : A) × (slice_get xs k ≡ Some x)
-get_there [] k lt = absurd (omega (arith, lt))
-get_there (x ∷ xs) zero lt = (x, refl)
-get_there (x ∷ xs) (suc k) lt = get_there xs k (omega (arith, lt))
-
-there_by : {A : Type 0} (xs : List A) (n : ℕ) (b : Bool) → (n == 0) ≡ b → 1 ≤ n → n ≤ length xs
-    → (x : A) × (cond b None (slice_get xs (n - 1)) ≡ Some x)
-there_by xs n true is first last = let none : n ≡ 0 = eqb-true _ _ is in absurd (omega (arith, none, first))
-there_by xs n false is first last = get_there xs (n - 1) (omega (arith, first, last))
-
--- an item that is there has each number that a list of that length has
-pub is_there : {A : Type 0} (xs : List A) (n : ℕ) → is_device (length xs) n ≡ true
-    → (1 ≤ n) × ((x : A) × (numbered xs n ≡ Some x))
-is_there xs n is =
-    let parts = and_parts (nat_le 1 n) (nat_le n (length xs)) is in
-    (leb-true _ _ parts.0, there_by xs n (n == 0) refl (leb-true _ _ parts.0) (leb-true _ _ parts.1))
-
-pub payload_there : (device : ℕ) (o : Option SentPayload) → may_reach device o ≡ true →
-    (p : SentPayload) × (o ≡ Some p)
-payload_there device None may = absurd cc
-payload_there device (Some p) may = (p, refl)
 
 pub unchanged : {A : Type 0} (o : Option A) → option_map (λ (x : A). x) o ≡ o
 unchanged None = refl

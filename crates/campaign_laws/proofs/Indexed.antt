@@ -1,13 +1,9 @@
 -- After its image's line a campaign has the index that the line says.
 use Rattle.std.proofs.Common.{◌≡◌, ℕ, ◌+◌, true, false, None, Some, Ok, refl, ap, ◌∙◌}
-use Rattle.std.specs.Result.{result_ok}
-use Rattle.wire_base.specs.Numbered.{numbered}
 use Rattle.device_core.specs.Events.{Receives}
 use Rattle.campaign_server.specs.Plan.{Plan}
-use Rattle.campaign_server.specs.Asking.{request_of}
-use Rattle.campaign_server.specs.Fragments.{next_fragment, after_fragment, status_to_all, after_status_to_all}
 use Rattle.script_lines.specs.declared.forms.Form.{Form}
-use Rattle.script_lines.specs.declared.forms.Form.TheVariants.{Header, Image, Group, WindowC, WindowB, Device, At, Wake, Migrate, Power, Ask, Frag, Status, Down, Raw, Air, RawAir, Up, End}
+use Rattle.script_lines.specs.declared.forms.Form.TheVariants.{Header, Image, Group, WindowC, WindowB, Device}
 use Rattle.campaign_world.specs.declared.section.Section.{Section}
 use Rattle.campaign_world.specs.declared.section.Section.TheVariants as section
 use Rattle.campaign_world.specs.World.{WorldState}
@@ -16,7 +12,7 @@ use Rattle.campaign_world.specs.Causes.{is_in_order, takes_events, form_cause, s
 use Rattle.campaign_world.specs.Making.{after_form, after_said}
 use Rattle.campaign_laws.specs.Fields.{HasFields, LineFits}
 use Rattle.campaign_laws.proofs.HeadlineForms.{passes, is_early, not_header, not_image, reached_passes, is_odd}
-use Rattle.campaign_laws.proofs.PlanGroups.{IsSettled, given_settled, event_settled, sends_settled, up_settled, fragment_plan, status_plan}
+use Rattle.campaign_laws.proofs.PlanGroups.{IsSettled, given_settled, made_settled}
 use Rattle.campaign_world.proofs.Sections.{by_section, never}
 
 -- until then it has none yet
@@ -58,39 +54,8 @@ form_indexed index w (WindowB start periodicity timeout freq dr) fine fits k =
 form_indexed index w (Device id class hw rows offset key descriptor v1 k11 flash) fine fits k =
     let form : Form = Device id class hw rows offset key descriptor v1 k11 flash in
     late_index index w.server.plan form w.section refl (passes w form fine).may k
-form_indexed index w (At time) fine fits k = late_index index w.server.plan (At time) w.section refl (passes w (At time) fine).may k
-form_indexed index w (Power n) fine fits k =
-    late_index index w.server.plan (Power n) w.section refl (passes w (Power n) fine).may k
-form_indexed index w (Wake n) fine fits k =
-    same_index w _ (event_settled w n (Wake n)) ∙ late_index index w.server.plan (Wake n) w.section refl (passes w (Wake n) fine).may k
-form_indexed index w (Migrate n) fine fits k =
-    same_index w _ (event_settled w n (Migrate n))
-    ∙ late_index index w.server.plan (Migrate n) w.section refl (passes w (Migrate n) fine).may k
-form_indexed index w (Ask n) fine fits k =
-    same_index w _ (sends_settled w w.server (Some n) (request_of w.server n) refl)
-    ∙ late_index index w.server.plan (Ask n) w.section refl (passes w (Ask n) fine).may k
-form_indexed index w Frag fine fits k =
-    same_index w _ (sends_settled w (after_fragment w.server) None (result_ok (next_fragment w.server)) (fragment_plan w.server))
-    ∙ late_index index w.server.plan Frag w.section refl (passes w Frag fine).may k
-form_indexed index w Status fine fits k =
-    same_index w _ (sends_settled w (after_status_to_all w.server) None (status_to_all w.server) (status_plan w.server))
-    ∙ late_index index w.server.plan Status w.section refl (passes w Status fine).may k
-form_indexed index w (Down number n word) fine fits k =
-    let form : Form = Down number n word in
-    same_index w _ (event_settled w n form) ∙ late_index index w.server.plan form w.section refl (passes w form fine).may k
-form_indexed index w (Raw n port payload word) fine fits k =
-    let form : Form = Raw n port payload word in
-    same_index w _ (event_settled w n form) ∙ late_index index w.server.plan form w.section refl (passes w form fine).may k
-form_indexed index w (Air number n word) fine fits k =
-    let form : Form = Air number n word in
-    same_index w _ (event_settled w n form) ∙ late_index index w.server.plan form w.section refl (passes w form fine).may k
-form_indexed index w (RawAir n bytes word) fine fits k =
-    let form : Form = RawAir n bytes word in
-    same_index w _ (event_settled w n form) ∙ late_index index w.server.plan form w.section refl (passes w form fine).may k
-form_indexed index w (Up number) fine fits k =
-    same_index w _ (up_settled w (numbered w.uplinks number))
-    ∙ late_index index w.server.plan (Up number) w.section refl (passes w (Up number) fine).may k
-form_indexed index w End fine fits k = late_index index w.server.plan End w.section refl (passes w End fine).may k
+form_indexed index w form fine fits k =
+    same_index w _ (made_settled w form refl) ∙ late_index index w.server.plan form w.section refl (passes w form fine).may k
 
 -- so it is after what a line says
 pub said_indexed : (index : ℕ) (w : WorldState) (said : Said) → said_cause w said ≡ None → LineFits index (Ok said)

@@ -1,13 +1,11 @@
 -- The keys and counts of a campaign hold after each form.
-use Rattle.std.proofs.Common.{◌≡◌, inl, inr, ℕ, zero, suc, ◌+◌, ◌-◌, ◌^◌, ◌<◌, ◌≤◌, ◌&&◌, ◌==◌, nat_lt, nat_le, Bool, true, false, cond, List, [], ◌∷◌, ◌++◌, length, slice_get, replicate, Option, None, Some, IfSome, Ok, Err, refl, sym, ap, ◌∙◌, subst, arith, true≢false}
+use Rattle.std.proofs.Common.{◌≡◌, inl, inr, ℕ, zero, suc, ◌+◌, ◌-◌, ◌^◌, ◌<◌, ◌≤◌, ◌&&◌, ◌==◌, nat_lt, nat_le, Bool, true, false, cond, List, [], ◌∷◌, ◌++◌, length, slice_get, replicate, Option, None, Some, IfSome, Ok, refl, sym, ap, ◌∙◌, subst, arith, true≢false}
 use Rattle.std.proofs.lemmas.Bool.{and_parts, ltb-true, leb-true}
 use Rattle.std.proofs.lemmas.List.{length-set, length_push}
 use Rattle.std.specs.List.{AllByRecursion, slice_set}
 use Rattle.std.specs.Result.{result_ok}
-use Rattle.wire_base.specs.declared.refusal.Direction.TheVariants.{Up as Upwards}
 use Rattle.wire_base.specs.Numbered.{numbered}
 use Rattle.aes_block.specs.Cipher.{IsBlock}
-use Rattle.package_grammar.specs.Reading.{Reading, reading_of}
 use Rattle.mc_group.specs.Groups.{group_at}
 use Rattle.device_core.specs.declared.config.DeviceConfig.{DeviceConfig}
 use Rattle.device_core.specs.Device.{DeviceState, first_device}
@@ -21,7 +19,7 @@ use Rattle.campaign_server.specs.Server.{ServerState, DownlinkCommand, first_ser
 use Rattle.campaign_server.specs.Asking.{by_unicast, request_of}
 use Rattle.campaign_server.specs.Fragments.{next_fragment, after_fragment, status_to_all, after_status_to_all}
 use Rattle.campaign_server.specs.Time.{time_answer}
-use Rattle.campaign_server.specs.Uplinks.{with_answers, read_uplink, uplink_step}
+use Rattle.campaign_server.specs.Uplinks.{with_answers}
 use Rattle.campaign_server.proofs.LineItems.{numbered_more, numbered_push, numbered_put, numbered_there}
 use Rattle.script_lines.specs.declared.forms.Form.{Form}
 use Rattle.script_lines.specs.declared.forms.Form.TheVariants.{Header, Image, Group, WindowC, WindowB, Device, At, Wake, Migrate, Power, Ask, Frag, Status, Down, Raw, Air, RawAir, Up, End}
@@ -32,20 +30,19 @@ use Rattle.campaign_world.specs.declared.numbered.SentPayload.{SentPayload}
 use Rattle.campaign_world.specs.declared.numbered.NumberedUplink.{NumberedUplink}
 use Rattle.campaign_world.specs.World.{WorldState, first_world}
 use Rattle.campaign_world.specs.Said.{Said, Own, Elsewhere, Reached}
-use Rattle.campaign_world.specs.Causes.{is_device, may_reach, form_cause, said_cause}
-use Rattle.campaign_world.specs.Making.{config_of, with_sent, with_device, with_event_of, after_answer, after_up, at_events, after_form, after_said}
+use Rattle.campaign_world.specs.Causes.{may_reach, form_cause, said_cause}
+use Rattle.campaign_world.specs.Making.{config_of, with_sent, with_device, with_event_of, after_up, at_events, after_form, after_said}
 use Rattle.campaign_world.proofs.Steps.{numbered_at}
-use Rattle.campaign_laws.proofs.HeadlineForms.{passes, number_there, device_there, payload_there, all_numbered, is_strange, reached_passes, is_odd, not_true}
-use Rattle.campaign_laws.proofs.PlanGroups.{is_planning, plan_at, fragment_plan, status_plan, answers_plan}
+use Rattle.campaign_laws.proofs.HeadlineForms.{passes, payload_there, is_strange, reached_passes, is_odd, not_true}
+use Rattle.campaign_laws.proofs.PlanGroups.{is_planning, plan_at, answers_plan}
 use Rattle.campaign_laws.specs.Fields.{HasFields, LineFits}
 use Rattle.campaign_laws.specs.Headline.{HasNoOther}
 use Rattle.campaign_laws.proofs.Crossing.{crossing_groups}
 use Rattle.campaign_laws.proofs.OwnGroups.{HasOwn, delivery_own, waking_own, migration_own}
 use Rattle.campaign_laws.proofs.Keyed.{FitsGroup, IsFit, IsPlanned, IsKept, IsNext, IsKeyed, next_later, first_next, fragment_next, status_next, answers_next, asked_kept, fragment_kept, status_kept, time_kept}
-
--- a device with a number that there is
-there_at : (ds : List DeviceState) (n : ℕ) → is_device (length ds) n ≡ true → (1 ≤ n) × ((d : DeviceState) × (numbered ds n ≡ Some d))
-there_at ds n names = let within = number_there (length ds) n names in (within.0, device_there ds n within)
+use Rattle.campaign_world.proofs.Zips.{all_more}
+use Rattle.campaign_laws.proofs.Events.{up_by, fragment_sends, status_sends}
+use Rattle.campaign_laws.proofs.Items.{all_numbered, is_there}
 
 -- the last item
 last_get : {A : Type 0} (xs : List A) (y : A) → slice_get (xs ++ y ∷ []) (length xs) ≡ Some y
@@ -189,52 +186,35 @@ device_keyed w n d e first there own k = record {
         let both : Some (after_event d e) ≡ Some x = sym here ∙ is in cc
 
 -- a payload is sent
-more_kept : (plan : Plan) (ps : List SentPayload) (p : SentPayload) → AllByRecursion (IsKept plan) ps → IsKept plan p
-    → AllByRecursion (IsKept plan) (ps ++ p ∷ [])
-more_kept plan [] p all one = (one, tt)
-more_kept plan (x ∷ xs) p all one = (all.0, more_kept plan xs p all.1 one)
+sent_keyed : (w : WorldState) (s : ServerState) (sent : List SentPayload) → s.plan ≡ w.server.plan → IsNext s.plan.group s.count (w.lines + 1)
+    → AllByRecursion (IsKept w.server.plan) sent → Keyed w.lines w → Keyed (w.lines + 1) (at_events (record w { server = s; sent = sent }))
+sent_keyed w s sent same next kept k = record {
+  fit = subst IsFit (sym same) k.fit;
+  even = ap (λ (p : Plan). length p.devices) same ∙ k.even;
+  none_sent = λ plan. absurd (true≢false (sym plan));
+  fresh = λ plan. absurd (true≢false (sym plan));
+  own = λ id d there. subst (λ (p : Plan). HasOwn p.group d.groups) (sym same) (k.own id d there);
+  planned = λ id d there. subst (λ (p : Plan). IsPlanned p id d.config × IsBlock d.config.key) (sym same) (k.planned id d there);
+  kept = subst (λ (p : Plan). AllByRecursion (IsKept p) sent) (sym same) kept;
+  next = next;
+}
 
 sends_keyed : (w : WorldState) (s : ServerState) (to : Option ℕ) (o : Option DownlinkCommand) → s.plan ≡ w.server.plan
     → IsNext s.plan.group s.count (w.lines + 1)
     → IfSome o (λ x. IsKept w.server.plan (record { receiver = to; down = downlink_of x })) → Keyed w.lines w
     → Keyed (w.lines + 1) (at_events (with_sent (record w { server = s }) to o))
-sends_keyed w s to None same next kept k = record {
-  fit = subst IsFit (sym same) k.fit;
-  even = ap (λ (p : Plan). length p.devices) same ∙ k.even;
-  none_sent = λ plan. absurd (true≢false (sym plan));
-  fresh = λ plan. absurd (true≢false (sym plan));
-  own = λ id d there. subst (λ (p : Plan). HasOwn p.group d.groups) (sym same) (k.own id d there);
-  planned = λ id d there. subst (λ (p : Plan). IsPlanned p id d.config × IsBlock d.config.key) (sym same) (k.planned id d there);
-  kept = subst (λ (p : Plan). AllByRecursion (IsKept p) w.sent) (sym same) k.kept;
-  next = next;
-}
-sends_keyed w s to (Some down) same next kept k = record {
-  fit = subst IsFit (sym same) k.fit;
-  even = ap (λ (p : Plan). length p.devices) same ∙ k.even;
-  none_sent = λ plan. absurd (true≢false (sym plan));
-  fresh = λ plan. absurd (true≢false (sym plan));
-  own = λ id d there. subst (λ (p : Plan). HasOwn p.group d.groups) (sym same) (k.own id d there);
-  planned = λ id d there. subst (λ (p : Plan). IsPlanned p id d.config × IsBlock d.config.key) (sym same) (k.planned id d there);
-  kept = subst (λ (p : Plan). AllByRecursion (IsKept p) (w.sent ++ record { receiver = to; down = downlink_of down } ∷ [])) (sym same)
-      (more_kept w.server.plan w.sent _ k.kept kept);
-  next = next;
-}
-
-read_keyed : (w : WorldState) (dev : ℕ) (r : Reading) → Keyed w.lines w
-    → Keyed (w.lines + 1) (at_events (after_answer w dev (read_uplink w.server dev w.time r)))
-unfolding read_uplink
-read_keyed w dev (Ok cs) k =
-    sends_keyed w (with_answers w.server dev cs (ledger w.server dev)) (Some dev) (by_unicast (time_answer w.time cs))
-    (answers_plan w.server dev cs (ledger w.server dev))
-    (answers_next w.server dev w.lines cs (ledger w.server dev) k.next) (time_kept w.server.plan (Some dev) w.time cs) k
-read_keyed w dev (Err refusal) k =
-    still_keyed w.lines w.section section.Events w.server w.devices w.sent (λ plan. absurd (true≢false (sym plan))) k
+sends_keyed w s to None same next kept k = sent_keyed w s w.sent same next k.kept k
+sends_keyed w s to (Some down) same next kept k =
+    sent_keyed w s (w.sent ++ record { receiver = to; down = downlink_of down } ∷ []) same next
+    (all_more (IsKept w.server.plan) w.sent _ k.kept kept) k
 
 up_keyed : (w : WorldState) (o : Option NumberedUplink) → Keyed w.lines w → Keyed (w.lines + 1) (at_events (after_up w o))
-unfolding uplink_step
-up_keyed w None k =
-    still_keyed w.lines w.section section.Events w.server w.devices w.sent (λ plan. absurd (true≢false (sym plan))) k
-up_keyed w (Some made) k = read_keyed w made.device (reading_of made.uplink.port Upwards made.uplink.payload) k
+up_keyed w o k =
+    up_by (Keyed (w.lines + 1)) w
+    (still_keyed w.lines w.section section.Events w.server w.devices w.sent (λ plan. absurd (true≢false (sym plan))) k)
+    (λ dev cs. sends_keyed w (with_answers w.server dev cs (ledger w.server dev)) (Some dev) (by_unicast (time_answer w.time cs))
+    (answers_plan w.server dev cs (ledger w.server dev))
+    (answers_next w.server dev w.lines cs (ledger w.server dev) k.next) (time_kept w.server.plan (Some dev) w.time cs) k) o
 
 reached_keyed : (w : WorldState) (number n word : ℕ) (d : DeviceState) (p : SentPayload) → 1 ≤ n → numbered w.devices n ≡ Some d
     → numbered w.sent number ≡ Some p → may_reach n (Some p) ≡ true → Keyed w.lines w
@@ -293,19 +273,8 @@ form_keyed index w (WindowB start periodicity timeout freq dr) fine fits plain f
         → (nat_lt start (2 ^ 32) && nat_le timeout 15 && nat_lt freq (2 ^ 24) && nat_le dr 255 && nat_le periodicity 7) ≡ true
         → (nat_le periodicity 7 && nat_lt start (2 ^ 32) && nat_le timeout 15 && nat_lt freq (2 ^ 24) && nat_le dr 255) ≡ true
     turned start periodicity timeout freq dr is =
-        by (nat_le periodicity 7) (nat_lt start (2 ^ 32)) (nat_le timeout 15) (nat_lt freq (2 ^ 24)) (nat_le dr 255) is
-      where
-        by : (a b c d e : Bool) → (b && c && d && e && a) ≡ true → (a && b && c && d && e) ≡ true
-        by true true true true true is = refl
-        by true true true true false is = absurd cc
-        by true true true false e is = absurd cc
-        by true true false d e is = absurd cc
-        by true false c d e is = absurd cc
-        by false true true true true is = absurd cc
-        by false true true true false is = absurd cc
-        by false true true false e is = absurd cc
-        by false true false d e is = absurd cc
-        by false false c d e is = absurd cc
+        let both = and_parts (nat_lt start (2 ^ 32) && nat_le timeout 15 && nat_lt freq (2 ^ 24) && nat_le dr 255) (nat_le periodicity 7) is in
+        rw (both.1) both.0
 form_keyed index w (Device id class hw rows offset key descriptor v1 k11 flash) fine fits plain few k =
     let form : Form = Device id class hw rows offset key descriptor v1 k11 flash in
     let here = plan_at w.section form refl (passes w form fine).may in
@@ -315,25 +284,25 @@ form_keyed index w (At time) fine fits plain few k =
 form_keyed index w (Power n) fine fits plain few k =
     still_keyed w.lines w.section section.Events w.server w.devices w.sent (λ plan. absurd (true≢false (sym plan))) k
 form_keyed index w (Wake n) fine fits plain few k =
-    let there = there_at w.devices n (passes w (Wake n) fine).names in
+    let there = is_there w.devices n (passes w (Wake n) fine).names in
     let own = waking_own w.server.plan.group w.time there.1.0 (k.own n there.1.0 there.1.1) in
     rw (there.1.1) (device_keyed w n there.1.0 (Wakes w.time) there.0 there.1.1 own k)
 form_keyed index w (Migrate n) fine fits plain few k =
-    let there = there_at w.devices n (passes w (Migrate n) fine).names in
+    let there = is_there w.devices n (passes w (Migrate n) fine).names in
     let own = migration_own w.server.plan.group there.1.0 (k.own n there.1.0 there.1.1) in
     rw (there.1.1) (device_keyed w n there.1.0 Migrates there.0 there.1.1 own k)
 form_keyed index w (Ask n) fine fits plain few k =
     sends_keyed w w.server (Some n) (request_of w.server n) refl (next_later w.server.plan.group w.server.count w.lines k.next)
     (asked_kept w.server n k.fit) k
 form_keyed index w Frag fine fits plain few k =
-    sends_keyed w (after_fragment w.server) None (result_ok (next_fragment w.server)) (fragment_plan w.server)
+    sends_keyed w (after_fragment w.server) None (result_ok (next_fragment w.server)) (fragment_sends w.server).plan
     (fragment_next w.server w.lines k.next) (fragment_kept w.server w.lines k.next few) k
 form_keyed index w Status fine fits plain few k =
-    sends_keyed w (after_status_to_all w.server) None (status_to_all w.server) (status_plan w.server)
+    sends_keyed w (after_status_to_all w.server) None (status_to_all w.server) (status_sends w.server).plan
     (status_next w.server w.lines k.next) (status_kept w.server w.lines k.next few) k
 form_keyed index w (Down number n word) fine fits plain few k =
     let p = passes w (Down number n word) fine in
-    let there = there_at w.devices n p.names in
+    let there = is_there w.devices n p.names in
     let got = payload_there n (numbered w.sent number) p.come in
     let may : may_reach n (Some got.0) ≡ true = subst (λ (o : Option SentPayload). may_reach n o ≡ true) got.1 p.come in
     reached_keyed w number n word there.1.0 got.0 there.0 there.1.1 got.1 may k
@@ -354,7 +323,7 @@ said_keyed index w (Own form) fine fits plain few alone k = form_keyed index w f
 said_keyed index w Elsewhere fine fits plain few alone k =
     still_keyed w.lines w.section w.section w.server w.devices w.sent (λ plan. plan) k
 said_keyed index w (Reached n word down) fine fits plain few alone k =
-    let there = there_at w.devices n (reached_passes w n word down fine).1 in
+    let there = is_there w.devices n (reached_passes w n word down fine).1 in
     let groups = crossing_groups w.server.plan.index w.time word (w.lines + 1) down there.1.0 (not_true _ plain) (alone n there.1.0 there.1.1) in
     let own = subst (HasOwn w.server.plan.group) (sym groups) (k.own n there.1.0 there.1.1) in
     rw (there.1.1) (device_keyed w n there.1.0 (Receives w.time word (w.lines + 1) down) there.0 there.1.1 own k)

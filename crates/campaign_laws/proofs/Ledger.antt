@@ -1,5 +1,5 @@
 -- What holds of each campaign of an image file, and so the ledger is true.
-use Rattle.std.proofs.Common.{◌≡◌, inl, inr, ⊎_elim, ℕ, zero, suc, ◌+◌, ◌-◌, ◌^◌, ◌<◌, ◌≤◌, Bool, true, false, cond, ◌==◌, ◌&&◌, nat_lt, nat_le, List, [], ◌∷◌, ◌++◌, length, map, replicate, slice_get, All, Option, None, Some, IfSome, Ok, Err, refl, sym, ap, ◌∙◌, subst, arith, eqb-true, true≢false}
+use Rattle.std.proofs.Common.{◌≡◌, inl, inr, ⊎_elim, ℕ, zero, suc, ◌+◌, ◌-◌, ◌^◌, ◌<◌, Bool, true, false, cond, ◌==◌, ◌&&◌, nat_lt, nat_le, List, [], ◌∷◌, ◌++◌, length, map, replicate, slice_get, All, Option, None, Some, IfSome, Ok, Err, refl, sym, ap, ◌∙◌, subst, arith, eqb-true, true≢false}
 use Rattle.std.proofs.lemmas.Bool.{and_parts, ltb-true}
 use Rattle.std.specs.List.{AllByRecursion, slice_set}
 use Rattle.std.specs.Result.{result_ok}
@@ -42,46 +42,18 @@ use Rattle.campaign_server.proofs.LineItems.{if_some, numbered_more, numbered_pu
 use Rattle.campaign_laws.proofs.HeadlineCommands.{Cut, cut_of, IsCut}
 use Rattle.campaign_laws.proofs.HeadlineEnds.{IsDeviceFor}
 use Rattle.campaign_laws.proofs.HeadlineWorlds.{IsPayloadOf, Keeps, Turns}
-use Rattle.campaign_laws.proofs.HeadlineForms.{passes, is_strange, form_turn, reached_passes, is_odd, not_true}
+use Rattle.campaign_laws.proofs.HeadlineForms.{passes, is_strange, form_turn, reached_passes, is_odd, not_true, payload_there}
 use Rattle.campaign_laws.specs.Fields.{LineFits, AllFit}
 use Rattle.campaign_laws.proofs.Crossing.{crossing_goes}
 use Rattle.campaign_laws.proofs.HonestLines.{heard_said, Stands, first_stands, goes_on_by, line_stands}
 use Rattle.campaign_laws.proofs.HeadlineLines.{end_is}
-use Rattle.campaign_laws.proofs.Independence.{read_first, line_fine, is_there, payload_there}
+use Rattle.campaign_laws.proofs.Independence.{read_first, line_fine}
 use Rattle.campaign_laws.proofs.LedgerDevices.{IsSound, Goes, ReadsAs, delivery_goes, waking_goes, migration_goes}
 use Rattle.campaign_laws.proofs.LedgerSlots.{HasSlots, Tells, TellsTruly, tells_on}
 use Rattle.campaign_laws.proofs.LedgerServers.{updated_by, IsOwn, ask_own, fragment_own, status_own, time_own, asked_reads, sent_reads}
+use Rattle.campaign_laws.proofs.Items.{all_both, number_first, all_numbered, is_there}
 
 -- ---- items
-
-get_all : {A : Type 0} (P : A → Type 0) (xs : List A) (k : ℕ) (x : A) → AllByRecursion P xs
-    → slice_get xs k ≡ Some x → P x
-get_all P [] k x all is = absurd cc
-get_all P (y ∷ ys) zero x all is = let here : y ≡ x = cc in subst P here all.0
-get_all P (y ∷ ys) (suc k) x all is = get_all P ys k x all.1 is
-
-all_by : {A : Type 0} (P : A → Type 0) (xs : List A) (k : ℕ) (x : A) (b : Bool) → AllByRecursion P xs
-    → cond b None (slice_get xs k) ≡ Some x → P x
-all_by P xs k x true all is = absurd cc
-all_by P xs k x false all is = get_all P xs k x all is
-
-numbered_all : {A : Type 0} (P : A → Type 0) (xs : List A) (n : ℕ) (x : A) → AllByRecursion P xs
-    → numbered xs n ≡ Some x → P x
-numbered_all P xs n x all is = all_by P xs (n - 1) x (n == 0) all is
-
-both_all : {A : Type 0} (P : A → Type 0) (xs ys : List A) → AllByRecursion P xs → AllByRecursion P ys
-    → AllByRecursion P (xs ++ ys)
-both_all P [] ys one more = more
-both_all P (x ∷ xs) ys one more = (one.0, both_all P xs ys one.1 more)
-
-first_by : {A : Type 0} (xs : List A) (n : ℕ) (x : A) (b : Bool) → (n == 0) ≡ b
-    → cond b None (slice_get xs (n - 1)) ≡ Some x → 1 ≤ n
-first_by xs n x true none is = absurd cc
-first_by xs n x false none is = grind (arith, none)
-
--- items are counted from 1
-first_is : {A : Type 0} (xs : List A) (n : ℕ) (x : A) → numbered xs n ≡ Some x → 1 ≤ n
-first_is xs n x is = first_by xs n x (n == 0) refl is
 
 get_same : {A : Type 0} (n k : ℕ) (x y : A) → slice_get (replicate n x) k ≡ Some y → x ≡ y
 get_same zero k x y is = absurd cc
@@ -132,7 +104,7 @@ sends_hold image w server to None h stood own =
     record { devices = h.devices; sent = h.sent; uplinks = h.uplinks; ledger = stood }
 sends_hold image w server to (Some down) h stood own = record {
   devices = h.devices;
-  sent = both_all IsOwnPayload w.sent (record { receiver = to; down = downlink_of down } ∷ []) h.sent
+  sent = all_both IsOwnPayload w.sent (record { receiver = to; down = downlink_of down } ∷ []) h.sent
       ((down, own, refl), tt);
   uplinks = h.uplinks;
   ledger = stood;
@@ -176,7 +148,7 @@ answers_true image ds server dev cs (Some old) is there told stood = λ id at.
     (updated_by server.plan server.image (Runs image ds dev) cs old
     (subst (λ (i : List ℕ). AllByRecursion (Tells i (Runs image ds dev)) cs) (sym is) told) up))
     (λ other. stood id (sym other ∙ at))
-    (numbered_put server.stages dev id new (first_is server.stages dev old there))
+    (numbered_put server.stages dev id new (number_first server.stages dev old there))
 
 read_holds : (image : List ℕ) (w : WorldState) (made : NumberedUplink) (r : Reading) → w.server.image ≡ image
     → Holds image w
@@ -199,7 +171,7 @@ up_holds image w number None there is h =
     record { devices = h.devices; sent = h.sent; uplinks = h.uplinks; ledger = h.ledger }
 up_holds image w number (Some made) there is h =
     read_holds image w made (reading_of made.uplink.port Upward made.uplink.payload) is h
-    (numbered_all (MadeTruly image w.devices) w.uplinks number made h.uplinks there) refl
+    (all_numbered (MadeTruly image w.devices) w.uplinks number made h.uplinks there) refl
 
 -- ---- an event at a device
 
@@ -220,7 +192,7 @@ runs_put image cut ds n id d e new there goes slots (x, is, runs) =
       now,
     ))
     (λ other. (x, other ∙ is, runs))
-    (numbered_put ds n id new (first_is ds n d there))
+    (numbered_put ds n id new (number_first ds n d there))
 
 made_on : (image : List ℕ) (ds later : List DeviceState) (us : List NumberedUplink)
     → ((id : ℕ) → Runs image ds id → Runs image later id) → AllByRecursion (MadeTruly image ds) us
@@ -249,7 +221,7 @@ put_fits image ds n d new there fit all id x is =
     ap (λ (k : ℕ). numbered (slice_set ds (n - 1) new) k) same ∙ numbered_there ds n d new there in
     let e : new ≡ x = cc in subst (IsFit image) e fit)
     (λ other. all id x (sym other ∙ is))
-    (numbered_put ds n id new (first_is ds n d there))
+    (numbered_put ds n id new (number_first ds n d there))
 
 device_holds : (image : List ℕ) (cut : Cut) (w : WorldState) (n : ℕ) (d e : DeviceState)
     → numbered w.devices n ≡ Some d
@@ -263,7 +235,7 @@ device_holds image cut w n d e there goes h =
       devices = put_fits image w.devices n d new there
           (record { hardware = goes.sound.hardware; slots = goes.sound.slots }) h.devices;
       sent = h.sent;
-      uplinks = both_all (MadeTruly image now) w.uplinks (map (λ uplink. made_by n uplink) e.outbox)
+      uplinks = all_both (MadeTruly image now) w.uplinks (map (λ uplink. made_by n uplink) e.outbox)
           (made_on image w.devices now w.uplinks
           (λ id. runs_put image cut w.devices n id d e new there goes refl) h.uplinks)
           (all_made image now n e.outbox
@@ -337,8 +309,8 @@ reached_holds : (image : List ℕ) (w : WorldState) (number n word : ℕ) (d : D
 reached_holds image w number n word d p bytes is cut k h there got =
     let whole : Cut = cut_of w.server.plan in
     let reads = payload_by image whole p _ refl bytes cut
-    (numbered_all (IsPayloadOf image whole) w.sent number p k.sent got)
-    (numbered_all IsOwnPayload w.sent number p h.sent got) in
+    (all_numbered (IsPayloadOf image whole) w.sent number p k.sent got)
+    (all_numbered IsOwnPayload w.sent number p h.sent got) in
     rw (there, got) (device_holds image whole w n d (delivery w.time word (w.lines + 1) p.down d).device there
     (delivery_goes image whole w.time word (w.lines + 1) p.down d bytes is reads
     (device_sound image w n d k h there)) h)

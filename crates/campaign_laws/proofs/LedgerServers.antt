@@ -81,92 +81,32 @@ checked_by image firmware hardware true same is =
     (hardware, ap (λ (v : ℕ). let x : Command = Sync (s.DevVersionAns v hardware) in x) e)
 checked_by image firmware hardware false same is = absurd cc
 
-version_moves : (plan : Plan) (image : List ℕ) (x : Command)
-    → stage_after plan image (stage.At request.Version) x ≡ Updated → ⊥
-unfolding stage_after
-version_moves plan image (Sync (s.DevVersionAns firmware hardware)) is =
-    unless_not request.Version (cond (is_for image hardware) 0 1)
-    (stage.At (cond (is_some plan.group) request.Group request.Fragments)) (not_at _) is
-version_moves plan image (Sync cmd) is = not_at request.Version is
-version_moves plan image (Cast cmd) is = not_at request.Version is
-
-group_moves : (plan : Plan) (image : List ℕ) (x : Command)
-    → stage_after plan image (stage.At request.Group) x ≡ Updated → ⊥
-unfolding stage_after
-group_moves plan image (Cast (c.McGroupSetupAns id error)) is =
-    asked_not (own_id plan.group) id (flag_value error 4) request.Group request.Fragments is
-group_moves plan image (Sync cmd) is = not_at request.Group is
-group_moves plan image (Cast cmd) is = not_at request.Group is
-
-fragments_moves : (plan : Plan) (image : List ℕ) (x : Command)
-    → stage_after plan image (stage.At request.Fragments) x ≡ Updated → ⊥
-unfolding stage_after
-fragments_moves plan image (Cast (c.FragSessionSetupAns index descriptor unsupported memory encoding)) is =
-    asked_not plan.index index (refusal_bits descriptor unsupported memory encoding)
-    request.Fragments (cond (is_some plan.group) request.Window request.Status) is
-fragments_moves plan image (Sync cmd) is = not_at request.Fragments is
-fragments_moves plan image (Cast cmd) is = not_at request.Fragments is
-
-window_moves : (plan : Plan) (image : List ℕ) (x : Command)
-    → stage_after plan image (stage.At request.Window) x ≡ Updated → ⊥
-unfolding stage_after
-window_moves plan image (Cast (c.McClassCSessionAns id undefined freq dr start)) is =
-    window_not plan (is_class_c plan.window) id (window_bits undefined freq dr) is
-window_moves plan image (Cast (c.McClassBSessionAns id undefined freq dr start)) is =
-    window_not plan (is_class_b plan.window) id (window_bits undefined freq dr) is
-window_moves plan image (Sync cmd) is = not_at request.Window is
-window_moves plan image (Cast cmd) is = not_at request.Window is
-
-status_moves : (plan : Plan) (image : List ℕ) (x : Command)
-    → stage_after plan image (stage.At request.Status) x ≡ Updated → ⊥
-unfolding stage_after
-status_moves plan image (Cast (c.FragSessionStatusAns index received missing norows)) is =
-    asked_not plan.index index (flag_value norows 1) request.Status
-    (cond (missing == 0) request.Image request.Status) is
-status_moves plan image (Sync cmd) is = not_at request.Status is
-status_moves plan image (Cast cmd) is = not_at request.Status is
-
-image_moves : (plan : Plan) (image : List ℕ) (x : Command)
-    → stage_after plan image (stage.At request.Image) x ≡ Updated → ⊥
-unfolding stage_after
-image_moves plan image (Sync (s.DevUpgradeImageAns status None)) is =
-    unless_not request.Image status (stage.At request.Image) (not_at _) is
-image_moves plan image (Sync (s.DevUpgradeImageAns status (Some version))) is =
-    not_either (version == firmware_of image) (stage.At request.Reboot) (Refused request.Image status)
-    (not_at _) (not_refused _ _) is
-image_moves plan image (Sync cmd) is = not_at request.Image is
-image_moves plan image (Cast cmd) is = not_at request.Image is
-
-reboot_moves : (plan : Plan) (image : List ℕ) (x : Command)
-    → stage_after plan image (stage.At request.Reboot) x ≡ Updated → ⊥
-unfolding stage_after
-reboot_moves plan image (Sync (s.DevRebootCountdownAns count)) is = not_at request.Check is
-reboot_moves plan image (Sync cmd) is = not_at request.Reboot is
-reboot_moves plan image (Cast cmd) is = not_at request.Reboot is
-
-check_moves : (plan : Plan) (image : List ℕ) (x : Command)
-    → stage_after plan image (stage.At request.Check) x ≡ Updated
-    → IsVersionOf image x
-unfolding stage_after
-check_moves plan image (Sync (s.DevVersionAns firmware hardware)) is =
-    checked_by image firmware hardware (firmware == firmware_of image) refl is
-check_moves plan image (Sync cmd) is = absurd (not_at request.Check is)
-check_moves plan image (Cast cmd) is = absurd (not_at request.Check is)
-
 -- only the answer to the check, and only with the image's version
 moves_to_updated : (plan : Plan) (image : List ℕ) (old : Stage) (x : Command) → stage_after plan image old x ≡ Updated
     → (old ≡ Updated) ⊎ IsVersionOf image x
 unfolding stage_after
-moves_to_updated plan image (stage.At request.Version) x is = absurd (version_moves plan image x is)
-moves_to_updated plan image (stage.At request.Group) x is = absurd (group_moves plan image x is)
-moves_to_updated plan image (stage.At request.Fragments) x is = absurd (fragments_moves plan image x is)
-moves_to_updated plan image (stage.At request.Window) x is = absurd (window_moves plan image x is)
-moves_to_updated plan image (stage.At request.Status) x is = absurd (status_moves plan image x is)
-moves_to_updated plan image (stage.At request.Image) x is = absurd (image_moves plan image x is)
-moves_to_updated plan image (stage.At request.Reboot) x is = absurd (reboot_moves plan image x is)
-moves_to_updated plan image (stage.At request.Check) x is = inr (check_moves plan image x is)
-moves_to_updated plan image Updated x is = inl refl
-moves_to_updated plan image (Refused r bits) x is = absurd (not_refused r bits is)
+moves_to_updated plan image (stage.At request.Version) (Sync (s.DevVersionAns firmware hardware)) is =
+    absurd (unless_not request.Version (cond (is_for image hardware) 0 1)
+    (stage.At (cond (is_some plan.group) request.Group request.Fragments)) (not_at _) is)
+moves_to_updated plan image (stage.At request.Group) (Cast (c.McGroupSetupAns id error)) is =
+    absurd (asked_not (own_id plan.group) id (flag_value error 4) request.Group request.Fragments is)
+moves_to_updated plan image (stage.At request.Fragments) (Cast (c.FragSessionSetupAns index descriptor unsupported memory encoding)) is =
+    absurd (asked_not plan.index index (refusal_bits descriptor unsupported memory encoding)
+    request.Fragments (cond (is_some plan.group) request.Window request.Status) is)
+moves_to_updated plan image (stage.At request.Window) (Cast (c.McClassCSessionAns id undefined freq dr start)) is =
+    absurd (window_not plan (is_class_c plan.window) id (window_bits undefined freq dr) is)
+moves_to_updated plan image (stage.At request.Window) (Cast (c.McClassBSessionAns id undefined freq dr start)) is =
+    absurd (window_not plan (is_class_b plan.window) id (window_bits undefined freq dr) is)
+moves_to_updated plan image (stage.At request.Status) (Cast (c.FragSessionStatusAns index received missing norows)) is =
+    absurd (asked_not plan.index index (flag_value norows 1) request.Status (cond (missing == 0) request.Image request.Status) is)
+moves_to_updated plan image (stage.At request.Image) (Sync (s.DevUpgradeImageAns status None)) is =
+    absurd (unless_not request.Image status (stage.At request.Image) (not_at _) is)
+moves_to_updated plan image (stage.At request.Image) (Sync (s.DevUpgradeImageAns status (Some version))) is =
+    absurd (not_either (version == firmware_of image) (stage.At request.Reboot) (Refused request.Image status) (not_at _) (not_refused _ _) is)
+moves_to_updated plan image (stage.At request.Reboot) (Sync (s.DevRebootCountdownAns count)) is = absurd (not_at request.Check is)
+moves_to_updated plan image (stage.At request.Check) (Sync (s.DevVersionAns firmware hardware)) is =
+    inr (checked_by image firmware hardware (firmware == firmware_of image) refl is)
+moves_to_updated plan image old x is = inl is
 
 -- of several commands one tells it
 pub updated_by : (plan : Plan) (image : List ℕ) (R : Type 0) (cs : List Command) (old : Stage)

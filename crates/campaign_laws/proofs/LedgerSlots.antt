@@ -3,10 +3,8 @@ use Rattle.std.proofs.Common.{◌≡◌, ◌⊎◌, inl, inr, ⊎_elim, ℕ, ◌
 use Rattle.std.specs.List.{AllByRecursion}
 use Rattle.wire_base.specs.declared.refusal.Direction.TheVariants.{Up}
 use Rattle.wire_base.specs.Rows.{IsListed}
-use Rattle.frag_encoder.specs.Encoding.{nb_frag_of, padding_of}
 use Rattle.frag_session.specs.declared.answers.Verdict.{Verdict}
 use Rattle.frag_session.specs.declared.answers.Verdict.TheVariants as verdict
-use Rattle.frag_session.specs.declared.setups.SetupReq.{SetupReq}
 use Rattle.frag_session.specs.Session.{Session, shape_of, seen_of, view_of}
 use Rattle.frag_session.specs.FirstMoment.{IsDecidedAtFirst}
 use Rattle.frag_session.proofs.FirstMoments.{decided_at_first}
@@ -26,31 +24,10 @@ use Rattle.device_core.specs.Fragments.{is_complete, whole_file, slots_after}
 use Rattle.campaign_laws.specs.Headline.{IsFragmentOf}
 use Rattle.campaign_laws.specs.Ledger.{IsRunning}
 use Rattle.campaign_laws.proofs.HeadlineCommands.{Cut}
-use Rattle.campaign_laws.proofs.HeadlineEnds.{IsSetFor}
-use Rattle.campaign_laws.proofs.HeadlineImage.{IsShapeFor, alone_is_image, behind}
+use Rattle.campaign_laws.proofs.HeadlineEnds.{IsSetFor, shape_for}
+use Rattle.campaign_laws.proofs.HeadlineImage.{alone_is_image, behind}
 
 -- ---- a file that is whole
-
--- the session's shape is the image's
-shape_for : (image : List ℕ) (cut : Cut) (s : Session) → All (λ b. b < 2 ^ 8) image → IsSetFor image cut s
-    → IsShapeFor image (shape_of s) s.setup.padding × ((shape_of s).frag_size ≡ cut.size)
-unfolding shape_of
-shape_for image cut s bytes k =
-    let size : s.setup.frag_size ≡ cut.size = ap (λ (r : SetupReq). r.frag_size) k.setup in
-    let count : s.setup.nb_frag ≡ nb_frag_of (length image) cut.size = ap (λ (r : SetupReq). r.nb_frag) k.setup in
-    let pad : s.setup.padding ≡ padding_of (length image) cut.size = ap (λ (r : SetupReq). r.padding) k.setup in (
-      record {
-        count = count ∙ ap (nb_frag_of (length image)) (sym size);
-        padded = pad ∙ ap (padding_of (length image)) (sym size);
-        makes = record {
-          some = subst (λ (n : ℕ). 0 < n) (sym count) k.makes.some;
-          short = subst (λ (n : ℕ). s.setup.padding < n) (sym size)
-              (subst (λ (n : ℕ). n < cut.size) (sym pad) k.makes.short);
-        };
-        bytes = bytes;
-      },
-      size,
-    )
 
 -- a session of the server's that is complete has the image
 complete_is : (image : List ℕ) (cut : Cut) (s : Session) (mark : ℕ) → All (λ b. b < 2 ^ 8) image
@@ -190,24 +167,10 @@ again image hw formats version running state.None file k = record {
   has = record { running = ⊎_elim (λ none. inl none) (λ r. inr (record { version = r.version; bytes = r.bytes })) k.running; next = inl refl };
   runs = λ r. record { version = r.version; bytes = r.bytes };
 }
-again image hw formats version running state.Corrupt file k = record {
+again image hw formats version running next file k = record {
   has = record {
     running = ⊎_elim (λ none. inl none) (λ r. inr (record { version = r.version; bytes = r.bytes })) k.running;
-    next = inr (raised_by image hw formats version running state.Corrupt file k (λ none. cc));
-  };
-  runs = λ r. record { version = r.version; bytes = r.bytes };
-}
-again image hw formats version running state.Incompatible file k = record {
-  has = record {
-    running = ⊎_elim (λ none. inl none) (λ r. inr (record { version = r.version; bytes = r.bytes })) k.running;
-    next = inr (raised_by image hw formats version running state.Incompatible file k (λ none. cc));
-  };
-  runs = λ r. record { version = r.version; bytes = r.bytes };
-}
-again image hw formats version running (state.Valid held) file k = record {
-  has = record {
-    running = ⊎_elim (λ none. inl none) (λ r. inr (record { version = r.version; bytes = r.bytes })) k.running;
-    next = inr (raised_by image hw formats version running (state.Valid held) file k (λ none. cc));
+    next = inr (raised_by image hw formats version running next file k (λ none. cc));
   };
   runs = λ r. record { version = r.version; bytes = r.bytes };
 }

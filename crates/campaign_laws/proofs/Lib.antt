@@ -1,4 +1,6 @@
 pub mod Told
+pub mod Items
+pub mod Events
 pub mod Configured
 pub mod HeadlineCommands
 pub mod HeadlinePayloads

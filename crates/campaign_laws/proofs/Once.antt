@@ -1,7 +1,6 @@
 -- An uplink that has moved a stage moves none when it comes again.
-use Rattle.std.proofs.Common.{◌≡◌, ◌≢◌, ⊎_elim, ℕ, zero, suc, ◌+◌, ◌-◌, ◌≤◌, ◌==◌, ◌&&◌, Bool, true, false, cond, List, [], ◌∷◌, ◌++◌, map, slice_get, append-nil, append_assoc, Option, None, Some, is_ok, is_some, Ok, Err, refl, sym, ap, ◌∙◌, subst, arith}
+use Rattle.std.proofs.Common.{◌≡◌, ◌≢◌, ⊎_elim, ℕ, ◌+◌, ◌-◌, ◌≤◌, ◌==◌, ◌&&◌, Bool, true, false, cond, List, [], ◌∷◌, ◌++◌, map, slice_get, append-nil, append_assoc, Option, None, Some, Ok, Err, refl, sym, ap, ◌∙◌, subst, arith, not}
 use Rattle.std.specs.List.{slice_set}
-use Rattle.std.specs.Result.{result_ok}
 use Rattle.wire_base.specs.declared.refusal.Direction.TheVariants.{Up as Upwards}
 use Rattle.image_slots.specs.Image.{is_image, firmware_of}
 use Rattle.sync_wire.specs.declared.cmd.Cmd.TheVariants as s
@@ -16,17 +15,16 @@ use Rattle.campaign_server.specs.declared.stage.Stage.TheVariants.{At}
 use Rattle.campaign_server.specs.declared.stage.Request.TheVariants as request
 use Rattle.campaign_server.specs.Server.{ServerState, DownlinkCommand, ledger}
 use Rattle.wire_base.specs.Numbered.{numbered}
-use Rattle.campaign_server.specs.Asking.{request_of, by_unicast}
+use Rattle.campaign_server.specs.Asking.{by_unicast}
 use Rattle.campaign_server.specs.Answers.{stage_after, stage_after_all}
-use Rattle.campaign_server.specs.Fragments.{next_fragment, after_fragment, after_count, status_to_all, after_status_to_all}
 use Rattle.campaign_server.specs.Time.{time_answer}
 use Rattle.campaign_server.specs.Uplinks.{with_answers, read_uplink, uplink_step}
 use Rattle.script_lines.specs.declared.forms.Form.{Form}
-use Rattle.script_lines.specs.declared.forms.Form.TheVariants.{Header, Image, Group, WindowC, WindowB, Device, At as AtTime, Wake, Migrate, Power, Ask, Frag, Status, Down, Raw, Air, RawAir, Up, End}
+use Rattle.script_lines.specs.declared.forms.Form.TheVariants.{Up}
 use Rattle.campaign_world.specs.declared.numbered.NumberedUplink.{NumberedUplink}
 use Rattle.campaign_world.specs.World.{WorldState, first_world}
 use Rattle.campaign_world.specs.Said.{Said, Own, Elsewhere, Reached, Line}
-use Rattle.campaign_world.specs.Causes.{form_cause, said_cause, line_cause}
+use Rattle.campaign_world.specs.Causes.{said_cause, line_cause, is_event_or_end}
 use Rattle.campaign_laws.specs.Ledger.{Runs}
 use Rattle.campaign_world.specs.Making.{with_sent, made_by, with_device, event_of, after_event_at, with_event_of, after_answer, after_up, at_events, after_form, after_said}
 use Rattle.campaign_world.specs.Script.{one_line_more, after_line, read_lines}
@@ -36,8 +34,12 @@ use Rattle.campaign_laws.proofs.Ledger.{MadeTruly, uplinks_are_true}
 use Rattle.campaign_laws.specs.Once.{rank, MovesOnce}
 use Rattle.campaign_laws.proofs.Stands.{put_cases}
 use Rattle.campaign_laws.proofs.Ranks.{ranks_up, moves_once}
-use Rattle.campaign_laws.proofs.PlanGroups.{is_planning, plan_at, no_plan}
-use Rattle.campaign_laws.proofs.Untouched.{number_first, get_all, fragment_same, status_same, Waits, waits_behind}
+use Rattle.campaign_laws.proofs.PlanGroups.{is_planning, event_over}
+use Rattle.campaign_laws.proofs.Untouched.{Waits, waits_behind}
+use Rattle.campaign_laws.proofs.Items.{number_first, all_numbered}
+use Rattle.campaign_world.proofs.Zips.{set_there}
+use Rattle.campaign_laws.proofs.Plays.{form_keeps, event_keeps}
+use Rattle.campaign_laws.proofs.Events.{by_event}
 
 -- ---- campaigns go on
 
@@ -70,24 +72,6 @@ sends_go : (w : WorldState) (server : ServerState) (to : Option ℕ) (down : Opt
 sends_go w server to None on = goes_by w _ on [] (sym (append-nil w.uplinks)) refl
 sends_go w server to (Some down) on = goes_by w _ on [] (sym (append-nil w.uplinks)) refl
 
-image_by : (server counted : ServerState) (b : Bool) → counted.image ≡ server.image → (cond b counted server).image ≡ server.image
-image_by server counted true same = same
-image_by server counted false same = refl
-
-fragment_image : (server : ServerState) → (after_fragment server).image ≡ server.image
-unfolding after_fragment
-fragment_image server = image_by server (after_count (record server { next = server.next + 1 })) (is_ok (next_fragment server)) refl
-
-status_image : (server : ServerState) → (after_status_to_all server).image ≡ server.image
-unfolding after_status_to_all
-status_image server = image_by server (after_count server) (is_some (status_to_all server)) refl
-
-fragment_on : (server : ServerState) → IsOn server (after_fragment server)
-fragment_on server = same_on server (after_fragment server) (fragment_same server) (fragment_image server)
-
-status_on : (server : ServerState) → IsOn server (after_status_to_all server)
-status_on server = same_on server (after_status_to_all server) (status_same server) (status_image server)
-
 -- an uplink
 answers_on : (server : ServerState) (dev : ℕ) (cs : List Command) (old : Option Stage) → numbered server.stages dev ≡ old → IsOn server (with_answers server dev cs old)
 answers_on server dev cs None there = same_on server server refl refl
@@ -104,16 +88,6 @@ answers_on server dev cs (Some old) there = record { ranks = ranks; image = refl
         (λ other. (stage, other.1 ∙ at, omega arith))
         (put_cases server.stages dev id old new (number_first server.stages dev old there) there)
 
-read_go : (w : WorldState) (dev : ℕ) (r : Reading) → Goes w (at_events (after_answer w dev (read_uplink w.server dev w.time r)))
-unfolding read_uplink
-read_go w dev (Ok cs) = sends_go w (with_answers w.server dev cs (ledger w.server dev)) (Some dev) (by_unicast (time_answer w.time cs)) (answers_on w.server dev cs (ledger w.server dev) refl)
-read_go w dev (Err refusal) = still w _ refl refl refl
-
-up_go : (w : WorldState) (o : Option NumberedUplink) → Goes w (at_events (after_up w o))
-unfolding uplink_step
-up_go w None = still w _ refl refl refl
-up_go w (Some made) = read_go w made.device (reading_of made.uplink.port Upwards made.uplink.payload)
-
 device_goes : (w : WorldState) (n : ℕ) (e : DeviceState) → Goes w (at_events (with_device w n e))
 unfolding with_device
 device_goes w n e = goes_by w _ (same_on w.server w.server refl refl) (map (λ (u : Uplink). made_by n u) e.outbox) refl refl
@@ -128,32 +102,16 @@ form_event_goes : (w : WorldState) (n : ℕ) (form : Form) → Goes w (with_even
 form_event_goes w n form =
     event_go w n (numbered w.devices n) (event_of w.server.plan.group w.sent w.time (w.lines + 1) form)
 
-form_goes : (w : WorldState) (form : Form) → form_cause w form ≡ None → is_planning w.section ≡ false → Goes w (after_form w form)
-unfolding after_form
-form_goes w Header fine over = no_plan w Header fine over (plan_at w.section Header refl)
-form_goes w (Image frag_size parity index) fine over = no_plan w (Image frag_size parity index) fine over (plan_at w.section (Image frag_size parity index) refl)
-form_goes w (Group id addr key min max) fine over = no_plan w (Group id addr key min max) fine over (plan_at w.section (Group id addr key min max) refl)
-form_goes w (WindowC start timeout freq dr) fine over = no_plan w (WindowC start timeout freq dr) fine over (plan_at w.section (WindowC start timeout freq dr) refl)
-form_goes w (WindowB start periodicity timeout freq dr) fine over = no_plan w (WindowB start periodicity timeout freq dr) fine over (plan_at w.section (WindowB start periodicity timeout freq dr) refl)
-form_goes w (Device id class hw rows offset key descriptor v1 k11 flash) fine over =
-    no_plan w (Device id class hw rows offset key descriptor v1 k11 flash) fine over (plan_at w.section (Device id class hw rows offset key descriptor v1 k11 flash) refl)
-form_goes w (AtTime time) fine over = still w _ refl refl refl
-form_goes w (Wake n) fine over = form_event_goes w n (Wake n)
-form_goes w (Migrate n) fine over = form_event_goes w n (Migrate n)
-form_goes w (Power n) fine over = still w _ refl refl refl
-form_goes w (Ask n) fine over = sends_go w w.server (Some n) (request_of w.server n) (same_on w.server w.server refl refl)
-form_goes w Frag fine over = sends_go w (after_fragment w.server) None (result_ok (next_fragment w.server)) (fragment_on w.server)
-form_goes w Status fine over = sends_go w (after_status_to_all w.server) None (status_to_all w.server) (status_on w.server)
-form_goes w (Down number n word) fine over = form_event_goes w n (Down number n word)
-form_goes w (Raw n port payload word) fine over = form_event_goes w n (Raw n port payload word)
-form_goes w (Air number n word) fine over = form_event_goes w n (Air number n word)
-form_goes w (RawAir n bytes word) fine over = form_event_goes w n (RawAir n bytes word)
-form_goes w (Up number) fine over = up_go w (numbered w.uplinks number)
-form_goes w End fine over = still w _ refl refl refl
+made_goes : (w : WorldState) (form : Form) → is_event_or_end form ≡ true → Goes w (after_form w form)
+made_goes w =
+    by_event (Goes w) w (λ time here late. still w _ refl refl (ap not late)) (λ n form. form_event_goes w n form)
+    (λ s to down sends. sends_go w s to down (same_on w.server s sends.stages sends.image))
+    (λ dev cs. sends_go w (with_answers w.server dev cs (ledger w.server dev)) (Some dev) (by_unicast (time_answer w.time cs))
+    (answers_on w.server dev cs (ledger w.server dev) refl))
 
 -- what a line says
 said_goes : (w : WorldState) (said : Said) → said_cause w said ≡ None → is_planning w.section ≡ false → Goes w (after_said w said)
-said_goes w (Own form) fine over = form_goes w form fine over
+said_goes w (Own form) fine over = made_goes w form (event_over w form fine over)
 said_goes w Elsewhere fine over = still w w refl refl over
 said_goes w (Reached n word down) fine over = event_go w n (numbered w.devices n) (Some (Receives w.time word (w.lines + 1) down))
 
@@ -194,17 +152,12 @@ stages_are : (w : WorldState) (made : NumberedUplink) (x : Command) → reading_
 unfolding uplink_step
 stages_are w made x read = stages_by w made.device x (reading_of made.uplink.port Upwards made.uplink.payload) read
 
-get_same : {A : Type 0} (xs : List A) (i : ℕ) (x : A) → slice_get xs i ≡ Some x → slice_set xs i x ≡ xs
-get_same [] i x is = refl
-get_same (y ∷ xs) zero x is = let e : y ≡ x = cc in rw e refl
-get_same (y ∷ xs) (suc i) x is = ap (λ l. y ∷ l) (get_same xs i x is)
-
 put_same : {A : Type 0} (xs : List A) (n : ℕ) (x : A) → numbered xs n ≡ Some x → slice_set xs (n - 1) x ≡ xs
 put_same {A = A} xs n x is = by (n == 0) is
   where
     by : (b : Bool) → cond b None (slice_get xs (n - 1)) ≡ Some x → slice_set xs (n - 1) x ≡ xs
     by true h = absurd cc
-    by false h = get_same xs (n - 1) x h
+    by false h = set_there xs (n - 1) x h
 
 -- where the answer leaves the stage, it leaves them all
 stays_by : (server : ServerState) (dev : ℕ) (x : Command) (o : Option Stage) → numbered server.stages dev ≡ o
@@ -215,32 +168,10 @@ stays_by server dev x (Some stage) there stays = rw (stays stage refl) (put_same
 
 -- ---- the image stays
 
-form_image : (w : WorldState) (form : Form) → (after_form w form).server.image ≡ w.server.image
-unfolding after_form
-form_image w Header = refl
-form_image w (Image frag_size parity index) = refl
-form_image w (Group id addr key min max) = refl
-form_image w (WindowC start timeout freq dr) = refl
-form_image w (WindowB start periodicity timeout freq dr) = refl
-form_image w (Device id class hw rows offset key descriptor v1 k11 flash) = refl
-form_image w (AtTime time) = refl
-form_image w (Wake n) = (form_event_goes w n (Wake n)).image
-form_image w (Migrate n) = (form_event_goes w n (Migrate n)).image
-form_image w (Power n) = refl
-form_image w (Ask n) = (sends_go w w.server (Some n) (request_of w.server n) (same_on w.server w.server refl refl)).image
-form_image w Frag = (sends_go w (after_fragment w.server) None (result_ok (next_fragment w.server)) (fragment_on w.server)).image
-form_image w Status = (sends_go w (after_status_to_all w.server) None (status_to_all w.server) (status_on w.server)).image
-form_image w (Down number n word) = (form_event_goes w n (Down number n word)).image
-form_image w (Raw n port payload word) = (form_event_goes w n (Raw n port payload word)).image
-form_image w (Air number n word) = (form_event_goes w n (Air number n word)).image
-form_image w (RawAir n bytes word) = (form_event_goes w n (RawAir n bytes word)).image
-form_image w (Up number) = (up_go w (numbered w.uplinks number)).image
-form_image w End = refl
-
 said_image : (w : WorldState) (said : Said) → (after_said w said).server.image ≡ w.server.image
-said_image w (Own form) = form_image w form
+said_image w (Own form) = (form_keeps w form).image
 said_image w Elsewhere = refl
-said_image w (Reached n word down) = (event_go w n (numbered w.devices n) (Some (Receives w.time word (w.lines + 1) down))).image
+said_image w (Reached n word down) = (event_keeps w n (numbered w.devices n) (Some (Receives w.time word (w.lines + 1) down))).image
 
 line_image : (w : WorldState) (line : Line) → (after_line w line).server.image ≡ w.server.image
 line_image w (Err cause) = refl
@@ -278,13 +209,6 @@ told_later image w made x stage file k truly read there hardware tells =
     first (At request.Version) at runs =
         let calm = k.devices made.device runs.0 runs.1 at in
         absurd (some_version (sym runs.2.version ∙ calm.version))
-    first (At request.Group) at runs = omega arith
-    first (At request.Fragments) at runs = omega arith
-    first (At request.Window) at runs = omega arith
-    first (At request.Status) at runs = omega arith
-    first (At request.Image) at runs = omega arith
-    first (At request.Reboot) at runs = omega arith
-    first (At request.Check) at runs = omega arith
     first stage at runs = omega arith
 
 later_by : (image : List ℕ) (world later : WorldState) (made : NumberedUplink) (x : Command) (o : Option Stage) → is_image image ≡ true → Waits world → MadeTruly image world.devices made
@@ -314,14 +238,14 @@ an_uplink_moves_once image line before between number world later made x bytes f
     let first = read_first world later line between more in
     let next : WorldState = one_line_more (at_events (after_up world (numbered world.uplinks number))) in
     let rest : read_lines (Ok next) between ≡ Ok later = subst (λ (l : Line). read_lines (Ok (after_line world l)) between ≡ Ok later) says first.1 in
-    let here = up_go world (numbered world.uplinks number) in
+    let here = made_goes world (Up number) refl in
     let on = all_go next later between refl rest in
     let still : numbered later.uplinks number ≡ Some made =
     ap (λ (us : List NumberedUplink). numbered us number) (on.uplinks.1 ∙ ap (λ (us : List NumberedUplink). us ++ on.uplinks.0) here.uplinks.1)
     ∙ numbered_more (world.uplinks ++ here.uplinks.0) on.uplinks.0 number made (numbered_more world.uplinks here.uplinks.0 number made there) in
     let wi : world.server.image ≡ image = lines_image (first_world image) world before read in
     let li : later.server.image ≡ image = on.image ∙ here.image ∙ wi in
-    let truly = get_all (MadeTruly image world.devices) world.uplinks number made (uplinks_are_true image world.server.plan.index world before bytes file fits honest read) there in
+    let truly = all_numbered (MadeTruly image world.devices) world.uplinks number made (uplinks_are_true image world.server.plan.index world before bytes file fits honest read) there in
     let is : (after_up world (numbered world.uplinks number)).server.stages ≡ (with_answers world.server made.device (x ∷ []) (ledger world.server made.device)).stages =
     ap (λ (o : Option NumberedUplink). (after_up world o).server.stages) there ∙ stages_are world made x single in
     ap (λ (o : Option NumberedUplink). (after_up later o).server.stages) still

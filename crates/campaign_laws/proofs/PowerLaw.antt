@@ -1,12 +1,11 @@
 -- `at` the time now instead of `power` leaves a campaign unchanged.
-use Rattle.std.proofs.Common.{◌≡◌, inl, inr, ℕ, ◌≤◌, ◌&&◌, nat_le, Bool, true, false, List, [], ◌∷◌, None, Some, Result, Ok, Err, refl, sym, ap, ◌∙◌, subst, arith}
+use Rattle.std.proofs.Common.{◌≡◌, inl, inr, ℕ, ◌≤◌, true, List, [], ◌∷◌, None, Result, Ok, Err, refl, sym, ap, ◌∙◌, subst, arith}
 use Rattle.std.proofs.lemmas.Bool.{le-leb, and_parts}
 use Rattle.script_lines.specs.declared.forms.Form.TheVariants.{At, Power}
 use Rattle.script_lines.specs.Limits.{max_time}
 use Rattle.script_lines.specs.Ranges.{in_range}
 use Rattle.report_lines.specs.declared.faults.LineFault.{LineFault}
 use Rattle.campaign_world.specs.declared.section.Section.{Section}
-use Rattle.campaign_world.specs.declared.section.Section.TheVariants as section
 use Rattle.campaign_world.specs.World.{WorldState, first_world}
 use Rattle.campaign_world.specs.Said.{Said, Own, Line}
 use Rattle.campaign_world.specs.Causes.{is_in_order, form_cause, line_cause, said_cause, cause_of}

@@ -109,69 +109,21 @@ check_leads plan image firmware hardware =
     either (At Check) x (firmware == firmware_of image) Updated (At Check) (on (At Check) x Updated (lit< tt) (lit≤ tt) (lit< tt)) (inl refl)
 
 -- each command at each stage
-at_version : (plan : Plan) (image : List ℕ) (x : Command) → Leads (At Version) x (stage_after plan image (At Version) x)
-unfolding stage_after
-at_version plan image (Sync (s.DevVersionAns firmware hardware)) = version_leads plan image firmware hardware
-at_version plan image (Sync cmd) = inl refl
-at_version plan image (Cast cmd) = inl refl
-
-at_group : (plan : Plan) (image : List ℕ) (x : Command) → Leads (At Group) x (stage_after plan image (At Group) x)
-unfolding stage_after
-at_group plan image (Cast (c.McGroupSetupAns id error)) = group_leads plan image id error
-at_group plan image (Sync cmd) = inl refl
-at_group plan image (Cast cmd) = inl refl
-
-at_fragments : (plan : Plan) (image : List ℕ) (x : Command) → Leads (At Fragments) x (stage_after plan image (At Fragments) x)
-unfolding stage_after
-at_fragments plan image (Cast (c.FragSessionSetupAns index d u m e)) = setup_leads plan image index d u m e
-at_fragments plan image (Sync cmd) = inl refl
-at_fragments plan image (Cast cmd) = inl refl
-
-at_window : (plan : Plan) (image : List ℕ) (x : Command) → Leads (At Window) x (stage_after plan image (At Window) x)
-unfolding stage_after
-at_window plan image (Cast (c.McClassCSessionAns id undefined freq dr start)) =
-    window_leads (Cast (c.McClassCSessionAns id undefined freq dr start)) (is_class_c plan.window) (own_id plan.group) id (flag_value undefined 16 + flag_value freq 8 + flag_value dr 4) refl
-at_window plan image (Cast (c.McClassBSessionAns id undefined freq dr start)) =
-    window_leads (Cast (c.McClassBSessionAns id undefined freq dr start)) (is_class_b plan.window) (own_id plan.group) id (flag_value undefined 16 + flag_value freq 8 + flag_value dr 4) refl
-at_window plan image (Sync cmd) = inl refl
-at_window plan image (Cast cmd) = inl refl
-
-at_status : (plan : Plan) (image : List ℕ) (x : Command) → Leads (At Status) x (stage_after plan image (At Status) x)
-unfolding stage_after
-at_status plan image (Cast (c.FragSessionStatusAns index received missing norows)) = status_leads plan image index received missing norows
-at_status plan image (Sync cmd) = inl refl
-at_status plan image (Cast cmd) = inl refl
-
-at_image : (plan : Plan) (image : List ℕ) (x : Command) → Leads (At Image) x (stage_after plan image (At Image) x)
-unfolding stage_after
-at_image plan image (Sync (s.DevUpgradeImageAns status next)) = upgrade_leads plan image status next
-at_image plan image (Sync cmd) = inl refl
-at_image plan image (Cast cmd) = inl refl
-
-at_reboot : (plan : Plan) (image : List ℕ) (x : Command) → Leads (At Reboot) x (stage_after plan image (At Reboot) x)
-unfolding stage_after
-at_reboot plan image (Sync (s.DevRebootCountdownAns count)) = on (At Reboot) (Sync (s.DevRebootCountdownAns count)) (At Check) (lit< tt) (lit≤ tt) (lit< tt)
-at_reboot plan image (Sync cmd) = inl refl
-at_reboot plan image (Cast cmd) = inl refl
-
-at_check : (plan : Plan) (image : List ℕ) (x : Command) → Leads (At Check) x (stage_after plan image (At Check) x)
-unfolding stage_after
-at_check plan image (Sync (s.DevVersionAns firmware hardware)) = check_leads plan image firmware hardware
-at_check plan image (Sync cmd) = inl refl
-at_check plan image (Cast cmd) = inl refl
-
 pub leads : (plan : Plan) (image : List ℕ) (stage : Stage) (x : Command) → Leads stage x (stage_after plan image stage x)
 unfolding stage_after
-leads plan image (At Version) x = at_version plan image x
-leads plan image (At Group) x = at_group plan image x
-leads plan image (At Fragments) x = at_fragments plan image x
-leads plan image (At Window) x = at_window plan image x
-leads plan image (At Status) x = at_status plan image x
-leads plan image (At Image) x = at_image plan image x
-leads plan image (At Reboot) x = at_reboot plan image x
-leads plan image (At Check) x = at_check plan image x
-leads plan image Updated x = inl refl
-leads plan image (Refused request bits) x = inl refl
+leads plan image (At Version) (Sync (s.DevVersionAns firmware hardware)) = version_leads plan image firmware hardware
+leads plan image (At Group) (Cast (c.McGroupSetupAns id error)) = group_leads plan image id error
+leads plan image (At Fragments) (Cast (c.FragSessionSetupAns index d u m e)) = setup_leads plan image index d u m e
+leads plan image (At Window) (Cast (c.McClassCSessionAns id undefined freq dr start)) =
+    window_leads (Cast (c.McClassCSessionAns id undefined freq dr start)) (is_class_c plan.window) (own_id plan.group) id (flag_value undefined 16 + flag_value freq 8 + flag_value dr 4) refl
+leads plan image (At Window) (Cast (c.McClassBSessionAns id undefined freq dr start)) =
+    window_leads (Cast (c.McClassBSessionAns id undefined freq dr start)) (is_class_b plan.window) (own_id plan.group) id (flag_value undefined 16 + flag_value freq 8 + flag_value dr 4) refl
+leads plan image (At Status) (Cast (c.FragSessionStatusAns index received missing norows)) = status_leads plan image index received missing norows
+leads plan image (At Image) (Sync (s.DevUpgradeImageAns status next)) = upgrade_leads plan image status next
+leads plan image (At Reboot) (Sync (s.DevRebootCountdownAns count)) =
+    on (At Reboot) (Sync (s.DevRebootCountdownAns count)) (At Check) (lit< tt) (lit≤ tt) (lit< tt)
+leads plan image (At Check) (Sync (s.DevVersionAns firmware hardware)) = check_leads plan image firmware hardware
+leads plan image stage x = inl refl
 
 -- what is past moves none
 pub past_moves_none : PastMovesNone
@@ -191,15 +143,8 @@ other_version : (plan : Plan) (image : List ℕ) (stage : Stage) (firmware hardw
     → stage_after plan image stage (Sync (s.DevVersionAns firmware hardware)) ≡ stage
 unfolding stage_after
 other_version plan image (At Version) firmware hardware other up = absurd (omega (arith, up))
-other_version plan image (At Group) firmware hardware other up = refl
-other_version plan image (At Fragments) firmware hardware other up = refl
-other_version plan image (At Window) firmware hardware other up = refl
-other_version plan image (At Status) firmware hardware other up = refl
-other_version plan image (At Image) firmware hardware other up = refl
-other_version plan image (At Reboot) firmware hardware other up = refl
 other_version plan image (At Check) firmware hardware other up = let e : (firmware == firmware_of image) ≡ false = grind (arith, other) in rw e refl
-other_version plan image Updated firmware hardware other up = refl
-other_version plan image (Refused request bits) firmware hardware other up = refl
+other_version plan image stage firmware hardware other up = refl
 
 -- an answer that has moved a stage moves none later
 pub moves_once : (plan later : Plan) (image : List ℕ) (stage now : Stage) (x : Command) → stage_after plan image stage x ≢ stage

@@ -58,6 +58,7 @@ use Rattle.campaign_laws.proofs.Orders.{pieces_in}
 use Rattle.campaign_laws.proofs.Hearing.{IsMade, IsNew, IsHearing, count_of}
 use Rattle.campaign_laws.proofs.Turns.{Early, early_turns, AtStage, Late, late_turns}
 use Rattle.campaign_laws.proofs.Deliveries.{HeardAll, Between, frags_to, deliveries_to}
+use Rattle.campaign_laws.proofs.Items.{numbered_up_to}
 
 -- ---- the image
 
@@ -144,18 +145,6 @@ get_replicate : {A : Type 0} (count i : ℕ) (x : A) → i < count → slice_get
 get_replicate zero i x low = absurd (omega (arith, low))
 get_replicate (suc count) zero x low = refl
 get_replicate (suc count) (suc i) x low = get_replicate count i x (omega (arith, low))
-
-get_there : {A : Type 0} (xs : List A) (i : ℕ) → i < length xs → (x : A) × (slice_get xs i ≡ Some x)
-get_there [] i low = absurd (omega (arith, low))
-get_there (x ∷ xs) zero low = (x, refl)
-get_there (x ∷ xs) (suc i) low = get_there xs i (omega (arith, low))
-
--- each number up to the length has an item
-numbered_up_to : {A : Type 0} (xs : List A) (n : ℕ) → 1 ≤ n → n ≤ length xs → (x : A) × (numbered xs n ≡ Some x)
-numbered_up_to xs n low high =
-    let there = get_there xs (n - 1) (omega (arith, low, high)) in
-    let some : (n == 0) ≡ false = grind (arith, low) in
-    (there.0, rw some there.1)
 
 numbered_replicate : {A : Type 0} (count n : ℕ) (x : A) → 1 ≤ n → n ≤ count → numbered (replicate count x) n ≡ Some x
 numbered_replicate count n x low high =
@@ -251,7 +240,11 @@ device_to image k g w few j =
           new,
           numbered_last w.devices new n (grind (arith, is, j.count)),
           record {
-            plain = record { class = refl; hw = refl; rows = refl; descriptor = refl; sessions = refl; area = refl; memory = refl; reboot = refl; outbox = refl };
+            plain = record {
+              config = record { class = refl; hw = refl; rows = refl; descriptor = refl; sessions = refl; area = refl; memory = refl };
+              reboot = refl;
+              outbox = refl;
+            };
             session = refl;
             version = refl;
           },

@@ -3,9 +3,9 @@ use Rattle.std.proofs.Common.{◌≡◌, ◌≢◌, ◌⊎◌, inl, inr, ℕ, �
 use Rattle.std.specs.List.{AllByRecursion}
 use Rattle.std.proofs.lemmas.List.Elements.{recursion_from_All, All-get_or}
 use Rattle.frag_model.specs.Fragments.{Fragment, Shape, IsPiece, IsUncoded, line_of, pieces_at, xor_all}
-use Rattle.frag_model.specs.Gain.{gain, direct, excess}
+use Rattle.frag_model.specs.Gain.{gain, gain_of, gain_of_lines, numbers_of, direct, excess}
 use Rattle.frag_model.specs.Laws.{AreNumbered}
-use Rattle.frag_model.specs.Verdict.{Verdict, receiving, complete, no_rows, conflict, verdict, verdict_now, first_verdict, missing, missing_next, missing_now, lacking, IsVerdict, IsVerdictNow, TwoBlocksFit}
+use Rattle.frag_model.specs.Verdict.{Verdict, receiving, complete, no_rows, conflict, verdict, first_verdict, IsVerdict, IsVerdictNow, TwoBlocksFit}
 use Rattle.frag_model.proofs.Enough.{enough_after, gain-most}
 use Rattle.frag_model.proofs.Uncoded.{excess-uncoded, line_of_piece, xor_all_piece}
 use Rattle.frag_model.proofs.Uniqueness.{unique_at_full_gain}
@@ -15,12 +15,13 @@ use Rattle.frag_encoder.proofs.Blocks.{block_shaped}
 use Rattle.frag_session.specs.declared.answers.Verdict.TheVariants as shown
 use Rattle.frag_session.specs.Session.{Session, seen_of, shape_of, shown_verdict}
 use Rattle.frag_session.proofs.FirstMoments.{decided_at_first}
-use Rattle.frag_session.proofs.FirstMoments.{shown_receiving, shown_complete}
+use Rattle.frag_session.proofs.FirstMoments.{shown_receiving}
+use Rattle.frag_session.proofs.MissingPieces.{missing_pieces}
 use Rattle.campaign_laws.specs.Headline.{IsFragmentOf, IsRecovered}
 use Rattle.campaign_laws.proofs.HeadlineCommands.{Cut}
-use Rattle.campaign_laws.proofs.HeadlineEnds.{IsSetFor}
+use Rattle.campaign_laws.proofs.HeadlineEnds.{IsSetFor, shape_for}
 use Rattle.campaign_laws.proofs.HeadlineImage.{IsShapeFor, behind}
-use Rattle.campaign_laws.proofs.HeadlineLaw.{shape_for, recovered_by}
+use Rattle.campaign_laws.proofs.HeadlineLaw.{recovered_by}
 
 -- how a seed's image is cut
 abbrev pub cut : Cut
@@ -30,50 +31,23 @@ cut = record { size = 64; index = 0; mask = 0 }
 
 -- where two blocks fit, not all is gained
 some_lacking : (shape : Shape) (heard : List Fragment) → AreNumbered heard
-    → (first : List (List ℕ)) (second : List (List ℕ)) → TwoBlocksFit shape heard first second → 1 ≤ lacking shape heard
-unfolding lacking
+    → (first : List (List ℕ)) (second : List (List ℕ)) → TwoBlocksFit shape heard first second → 1 ≤ shape.nb_frag - gain shape heard
 some_lacking shape heard numbered first second two =
     let most = gain-most shape heard numbered in
     let apart : gain shape heard ≢ shape.nb_frag = λ full. two.differ (unique_at_full_gain shape heard second first numbered full two.other two.one) in
     omega (arith, most, apart)
 
-receiving_lacks : (shape : Shape) (f : Fragment) (older : List Fragment) → AreNumbered (f ∷ older) → IsVerdict shape (f ∷ older) receiving → 1 ≤ lacking shape (f ∷ older)
+receiving_lacks : (shape : Shape) (f : Fragment) (older : List Fragment) → AreNumbered (f ∷ older) → IsVerdict shape (f ∷ older) receiving → 1 ≤ shape.nb_frag - gain shape (f ∷ older)
 unfolding IsVerdict IsVerdictNow
 receiving_lacks shape f older numbered (inl stayed) = absurd (stayed.1 refl)
 receiving_lacks shape f older numbered (inr right) = some_lacking shape (f ∷ older) numbered right.1.1.0 right.1.1.1 right.1.1.2
 
--- a session that receives has received before
-before_receiving : (v next : Verdict) → first_verdict v next ≡ receiving → v ≡ receiving
-unfolding first_verdict
-before_receiving receiving next is = refl
-before_receiving (complete mark block) next is = absurd cc
-before_receiving (no_rows mark) next is = absurd cc
-before_receiving (conflict mark) next is = absurd cc
-
--- while it receives, something is missing
-missing_some : (shape : Shape) (heard : List Fragment) → AreNumbered heard → 1 ≤ shape.nb_frag → verdict shape heard ≡ receiving → 1 ≤ missing shape heard
-unfolding missing missing_next missing_now verdict
-missing_some shape [] numbered some is = some
-missing_some shape (f ∷ older) numbered some is =
-    let was : verdict shape older ≡ receiving = before_receiving (verdict shape older) (verdict_now shape (f ∷ older) f.mark) is in
-    let right : IsVerdict shape (f ∷ older) receiving = subst (IsVerdict shape (f ∷ older)) is (verdict-right shape (f ∷ older)) in
-    rw (is, was) (receiving_lacks shape f older numbered right)
-
--- with its whole file, nothing is
-missing_by : (v w : Verdict) (mark : ℕ) (block : List (List ℕ)) (kept now before : ℕ) → first_verdict v w ≡ complete mark block
-    → (v ≡ complete mark block → kept ≡ 0) → missing_next v kept (missing_now (first_verdict v w) now before) ≡ 0
-unfolding missing_next missing_now first_verdict
-missing_by receiving w mark block kept now before is old = rw is refl
-missing_by (complete at b) w mark block kept now before is old = old is
-missing_by (no_rows at) w mark block kept now before is old = absurd cc
-missing_by (conflict at) w mark block kept now before is old = absurd cc
-
-missing_none : (shape : Shape) (heard : List Fragment) (mark : ℕ) (block : List (List ℕ)) → verdict shape heard ≡ complete mark block → missing shape heard ≡ 0
-unfolding missing verdict
-missing_none shape [] mark block is = absurd cc
-missing_none shape (f ∷ older) mark block is =
-    missing_by (verdict shape older) (verdict_now shape (f ∷ older) f.mark) mark block (missing shape older) (lacking shape (f ∷ older)) (lacking shape older) is
-    (λ was. missing_none shape older mark block was)
+-- while it receives, something is
+some_left : (shape : Shape) (heard : List Fragment) → AreNumbered heard → 1 ≤ shape.nb_frag → verdict shape heard ≡ receiving → 1 ≤ shape.nb_frag - gain shape heard
+unfolding gain gain_of gain_of_lines numbers_of
+some_left shape [] numbered some is = omega (arith, some)
+some_left shape (f ∷ older) numbered some is =
+    receiving_lacks shape f older numbered (subst (IsVerdict shape (f ∷ older)) is (verdict-right shape (f ∷ older)))
 
 -- ---- a session of the server's
 
@@ -98,13 +72,14 @@ fragments_numbered image [] all = tt
 fragments_numbered image (f ∷ heard) all = (all.0.first, fragments_numbered image heard all.1)
 
 pub something_missing : (image : List ℕ) (x : Session) → All (λ b. b < 2 ^ 8) image → IsOurs image x → (seen_of x).verdict ≡ shown.Receiving → 1 ≤ (seen_of x).missing
-unfolding seen_of
+unfolding seen_of shape_of
 something_missing image x bytes ours is =
-    missing_some (shape_of x) x.heard (fragments_numbered image x.heard ours.set.heard) (shape_is image x bytes ours).0.makes.some (shown_receiving (verdict (shape_of x) x.heard) is)
+    rw (missing_pieces.receiving x is)
+    (some_left (shape_of x) x.heard (fragments_numbered image x.heard ours.set.heard) (shape_is image x bytes ours).0.makes.some
+    (shown_receiving (verdict (shape_of x) x.heard) is))
 
 pub nothing_missing : (x : Session) (mark : ℕ) → (seen_of x).verdict ≡ shown.Complete mark → (seen_of x).missing ≡ 0
-unfolding seen_of
-nothing_missing x mark is = let v = shown_complete (verdict (shape_of x) x.heard) mark is in missing_none (shape_of x) x.heard mark v.0 v.1
+nothing_missing x mark is = missing_pieces.complete x mark is
 
 -- ---- enough rows
 

@@ -34,13 +34,7 @@ use Rattle.campaign_laws.proofs.Hearing.{IsMade, IsNew, IsReady, is_cut, no_bits
 -- its last uplink doesn't matter
 plain_holding : (e : DeviceState) → IsPlain e → IsPlain (holding [] e)
 plain_holding e plain = record {
-  class = plain.class;
-  hw = plain.hw;
-  rows = plain.rows;
-  descriptor = plain.descriptor;
-  sessions = plain.sessions;
-  area = plain.area;
-  memory = plain.memory;
+  config = plain.config;
   reboot = plain.reboot;
   outbox = refl;
 }
@@ -67,10 +61,10 @@ version_turn image d s made (is, new) =
       makes = λ mark. refl;
       empty = new.plain.outbox;
       due = still_due d new.plain.reboot;
-      up_read = version_told d.slots.version d.config.hw (omega (arith, new.version)) (omega (arith, new.plain.hw));
+      up_read = version_told d.slots.version d.config.hw (omega (arith, new.version)) (omega (arith, new.plain.config.hw));
       silent = refl;
       after = λ plan planned. (
-        ap (λ (x : Stage). stage_after plan image x (Sync (DevVersionAns d.slots.version d.config.hw))) is ∙ version_moves image plan d.slots.version d.config.hw planned new.plain.hw made.lowest made.highest,
+        ap (λ (x : Stage). stage_after plan image x (Sync (DevVersionAns d.slots.version d.config.hw))) is ∙ version_moves image plan d.slots.version d.config.hw planned new.plain.config.hw made.lowest made.highest,
         record { plain = plain_holding d new.plain; session = new.session; version = new.version },
       );
     })
@@ -109,13 +103,7 @@ setup_turn image d s made (is, new) =
         ap (λ (x : Stage). stage_after plan image x a) is ∙ setup_moves image plan planned,
         record {
           plain = record {
-            class = new.plain.class;
-            hw = new.plain.hw;
-            rows = new.plain.rows;
-            descriptor = new.plain.descriptor;
-            sessions = new.plain.sessions;
-            area = new.plain.area;
-            memory = new.plain.memory;
+            config = new.plain.config;
             reboot = new.plain.reboot;
             outbox = refl;
           };
@@ -149,6 +137,12 @@ pub record HasHeard (image : List ℕ) (j : ℕ) (d : DeviceState) (s : Stage) (
 
 abbrev pub Late : (image : List ℕ) (j : ℕ) → DeviceState → Stage → Type 0
 Late image j d s = (x : Session) × HasHeard image j d s x
+
+-- with its whole file it goes on
+goes_on : (image : List ℕ) (j : ℕ) (e : DeviceState) (s : Stage) (x : Session) (mark : ℕ) → IsPlain e → e.sessions.first ≡ Some x → IsOurs image x
+    → (seen_of x).verdict ≡ shown.Complete mark → AtStage image j (holding [] e) s → Late image j (holding [] e) s
+goes_on image j e s x mark plain session ours whole at =
+    (x, record { plain = plain_holding e plain; session = session; ours = ours; how = inr (mark, whole, at) })
 
 abbrev status_answer : Session → Command
 status_answer x = Cast (FragSessionStatusAns 0 (seen_of x).received (min (seen_of x).missing 255) false)
@@ -214,15 +208,9 @@ whole_turn : (image : List ℕ) (d : DeviceState) (s : Stage) (x : Session) (mar
     → (seen_of x).verdict ≡ shown.Complete mark → AtStage image 0 d s → TakesTurn image (Late image 1) d s
 whole_turn image d s x mark made plain session ours whole (is, next) =
     let none : min (seen_of x).missing 255 ≡ 0 = (let nothing = nothing_missing x mark whole in omega (arith, nothing)) in
-    status_turn image 0 d s x plain session is (inr (mark, whole)) (λ plan planned. (
-      x,
-      record {
-        plain = plain_holding d plain;
-        session = session;
-        ours = ours;
-        how = inr (mark, whole, (status_moves image plan (seen_of x).received (min (seen_of x).missing 255) planned none, next));
-      },
-    ))
+    status_turn image 0 d s x plain session is (inr (mark, whole))
+    (λ plan planned. goes_on image 1 d _ x mark plain session ours whole
+    (status_moves image plan (seen_of x).received (min (seen_of x).missing 255) planned none, next))
 
 image_moves : (image : List ℕ) (plan : Plan) → stage_after plan image (At request.Image) (Sync (DevUpgradeImageAns 3 (Some (firmware_of image)))) ≡ At request.Reboot
 unfolding stage_after
@@ -242,15 +230,8 @@ image_turn image d s x mark made plain session ours whole (is, next) =
       due = still_due d plain.reboot;
       up_read = image_told (firmware_of image) made.firmware;
       silent = refl;
-      after = λ plan planned. (
-        x,
-        record {
-          plain = plain_holding d plain;
-          session = session;
-          ours = ours;
-          how = inr (mark, whole, (ap (λ (y : Stage). stage_after plan image y a) is ∙ image_moves image plan, next));
-        },
-      );
+      after = λ plan planned.
+          goes_on image 2 d _ x mark plain session ours whole (ap (λ (y : Stage). stage_after plan image y a) is ∙ image_moves image plan, next);
     })
 
 -- the device after its reboot
@@ -285,25 +266,9 @@ reboot_turn image d s x mark made plain session ours whole (is, next) =
       due = reboot_due image d next;
       up_read = reboot_told;
       silent = refl;
-      after = λ plan planned. (
-        x,
-        record {
-          plain = record {
-            class = plain.class;
-            hw = plain.hw;
-            rows = plain.rows;
-            descriptor = plain.descriptor;
-            sessions = plain.sessions;
-            area = plain.area;
-            memory = plain.memory;
-            reboot = refl;
-            outbox = refl;
-          };
-          session = session;
-          ours = ours;
-          how = inr (mark, whole, (ap (λ (y : Stage). stage_after plan image y (Sync (DevRebootCountdownAns 0))) is, refl));
-        },
-      );
+      after = λ plan planned.
+          goes_on image 3 (rebooted image d) _ x mark (record { config = plain.config; reboot = refl; outbox = plain.outbox }) session ours whole
+          (ap (λ (y : Stage). stage_after plan image y (Sync (DevRebootCountdownAns 0))) is, refl);
     })
 
 check_moves : (image : List ℕ) (plan : Plan) (v hw : ℕ) → v ≡ firmware_of image → stage_after plan image (At request.Check) (Sync (DevVersionAns v hw)) ≡ Updated
@@ -322,17 +287,11 @@ check_turn image d s x mark made plain session ours whole (is, runs) =
       makes = λ mark. refl;
       empty = plain.outbox;
       due = still_due d plain.reboot;
-      up_read = version_told d.slots.version d.config.hw (rw runs made.firmware) (omega (arith, plain.hw));
+      up_read = version_told d.slots.version d.config.hw (rw runs made.firmware) (omega (arith, plain.config.hw));
       silent = refl;
-      after = λ plan planned. (
-        x,
-        record {
-          plain = plain_holding d plain;
-          session = session;
-          ours = ours;
-          how = inr (mark, whole, ap (λ (y : Stage). stage_after plan image y a) is ∙ check_moves image plan d.slots.version d.config.hw runs);
-        },
-      );
+      after = λ plan planned.
+          goes_on image 4 d _ x mark plain session ours whole
+          (ap (λ (y : Stage). stage_after plan image y a) is ∙ check_moves image plan d.slots.version d.config.hw runs);
     })
 
 late_by : (image : List ℕ) (j : ℕ) (d : DeviceState) (s : Stage) (x : Session) → IsMade image → j < 4 → IsPlain d → d.sessions.first ≡ Some x → IsOurs image x

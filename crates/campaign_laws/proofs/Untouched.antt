@@ -1,10 +1,8 @@
 -- While the server has not asked a device for more than its version, the device runs no file.
-use Rattle.std.proofs.Common.{◌≡◌, inl, inr, ⊎_elim, ℕ, ◌+◌, ◌-◌, ◌^◌, ◌<◌, ◌≤◌, All, ◌==◌, Bool, true, false, cond, List, [], ◌∷◌, ◌++◌, slice_get, zero, suc, Option, None, Some, IfSome, is_some, is_ok, Result, Ok, Err, refl, sym, ap, ◌∙◌, subst, arith, true≢false}
+use Rattle.std.proofs.Common.{◌≡◌, inl, inr, ⊎_elim, ℕ, ◌+◌, ◌^◌, ◌<◌, ◌≤◌, All, ◌==◌, Bool, true, false, cond, List, [], ◌∷◌, ◌++◌, Option, None, Some, IfSome, Result, Ok, Err, refl, sym, ap, ◌∙◌, subst, arith, true≢false}
 use Rattle.std.specs.List.{AllByRecursion}
 use Rattle.std.specs.Result.{result_ok}
-use Rattle.wire_base.specs.declared.refusal.Direction.TheVariants.{Up as Upwards}
 use Rattle.package_grammar.specs.declared.command.Command.{Command}
-use Rattle.package_grammar.specs.Reading.{Reading, reading_of}
 use Rattle.device_core.specs.Device.{DeviceState}
 use Rattle.device_core.specs.Deliver.{delivery, waking}
 use Rattle.device_core.specs.Firmware.{after_migration}
@@ -12,7 +10,7 @@ use Rattle.device_core.specs.Events.{Wakes, Receives, Migrates}
 use Rattle.image_slots.specs.Slots.{after_raise}
 use Rattle.campaign_server.specs.declared.plan.PlanDevice.{PlanDevice}
 use Rattle.campaign_server.specs.declared.stage.Stage.{Stage}
-use Rattle.campaign_server.specs.declared.stage.Stage.TheVariants.{At, Updated, Refused}
+use Rattle.campaign_server.specs.declared.stage.Stage.TheVariants.{At}
 use Rattle.campaign_server.specs.declared.stage.Request.TheVariants as request
 use Rattle.campaign_server.specs.Plan.{Plan}
 use Rattle.campaign_server.specs.Server.{ServerState, DownlinkCommand, port_of, downlink_of, ledger}
@@ -23,7 +21,7 @@ use Rattle.campaign_server.specs.declared.fragments.Spent.{Spent}
 use Rattle.campaign_server.specs.declared.fragments.Spent.TheVariants.{Fragments, Counts}
 use Rattle.campaign_server.specs.Fragments.{next_fragment, after_fragment, status_to_all, after_status_to_all}
 use Rattle.campaign_server.specs.Time.{time_answer}
-use Rattle.campaign_server.specs.Uplinks.{with_answers, read_uplink, uplink_step}
+use Rattle.campaign_server.specs.Uplinks.{with_answers}
 use Rattle.script_lines.specs.declared.forms.Form.{Form}
 use Rattle.script_lines.specs.declared.forms.Form.TheVariants.{Header, Image, Group, WindowC, WindowB, Device, At as AtTime, Wake, Migrate, Power, Ask, Frag, Status, Down, Raw, Air, RawAir, Up, End}
 use Rattle.campaign_world.specs.declared.section.Section.{Section}
@@ -34,21 +32,24 @@ use Rattle.campaign_world.specs.World.{WorldState, first_world}
 use Rattle.campaign_world.specs.Said.{Said, Own, Elsewhere, Reached, Line}
 use Rattle.campaign_world.specs.Honest.{has_raw, AreHonest}
 use Rattle.campaign_world.specs.Causes.{may_reach, form_cause, said_cause, line_cause, cause_of}
-use Rattle.campaign_world.specs.Making.{with_plan, with_sent, with_device, after_event_at, after_answer, after_up, at_events, device_of, after_form, after_said}
+use Rattle.campaign_world.specs.Making.{with_plan, with_sent, with_device, after_event_at, after_up, at_events, device_of, after_form, after_said}
 use Rattle.campaign_world.specs.Script.{one_line_more, after_line, read_lines}
 use Rattle.campaign_server.proofs.LineItems.{numbered_push}
-use Rattle.campaign_laws.proofs.HeadlineForms.{passes, is_strange, reached_passes, is_odd, not_true}
+use Rattle.campaign_laws.proofs.HeadlineForms.{passes, is_strange, reached_passes, is_odd, not_true, payload_there}
 use Rattle.campaign_laws.specs.Headline.{HasNoOther}
 use Rattle.campaign_laws.specs.Fields.{LineFits, AllFit}
 use Rattle.campaign_laws.proofs.Crossing.{crossing_calm}
 use Rattle.campaign_laws.proofs.HonestLines.{heard_said, Stands, first_stands, alone_at, goes_on_by, line_stands}
 use Rattle.campaign_laws.proofs.Keyed.{time_port}
 use Rattle.campaign_laws.proofs.PlanGroups.{is_planning, plan_at}
-use Rattle.campaign_laws.proofs.Independence.{read_first, line_fine, is_there, payload_there}
+use Rattle.campaign_laws.proofs.Independence.{read_first, line_fine}
 use Rattle.campaign_laws.specs.Once.{rank}
 use Rattle.campaign_laws.proofs.Stands.{put_cases}
 use Rattle.campaign_laws.proofs.Ranks.{ranks_up}
 use Rattle.campaign_laws.proofs.Calm.{IsUntouched, IsCalm, delivery_calm, waking_calm}
+use Rattle.campaign_world.proofs.Zips.{all_more}
+use Rattle.campaign_laws.proofs.Items.{number_first, is_there, all_numbered}
+use Rattle.campaign_laws.proofs.Events.{up_by, fragment_sends, status_sends}
 
 -- ---- what holds after each line
 
@@ -62,18 +63,6 @@ pub record Waits (w : WorldState) : Type 0 where
   pub devices : (id : ℕ) (d : DeviceState) → numbered w.devices id ≡ Some d → numbered w.server.stages id ≡ Some (At request.Version) → IsUntouched d
   pub sent : AllByRecursion (IsFor w.server.stages) w.sent
 
-pub get_all : {A : Type 0} (P : A → Type 0) (xs : List A) (n : ℕ) (x : A) → AllByRecursion P xs → numbered xs n ≡ Some x → P x
-get_all P xs n x all is = by (n == 0) is
-  where
-    get : (ys : List _) (k : ℕ) → AllByRecursion P ys → slice_get ys k ≡ Some x → P x
-    get [] k all there = absurd cc
-    get (y ∷ ys) zero all there = let here : y ≡ x = cc in subst P here all.0
-    get (y ∷ ys) (suc k) all there = get ys k all.1 there
-
-    by : (b : Bool) → cond b None (slice_get xs (n - 1)) ≡ Some x → P x
-    by true there = absurd cc
-    by false there = get xs (n - 1) all there
-
 -- ---- a payload is sent
 
 -- where the new stages are at version, so were the old
@@ -84,24 +73,21 @@ older : (old new : List Stage) (ps : List SentPayload) → Begin old new → All
 older old new [] back all = tt
 older old new (p ∷ ps) back all = (λ id may at. all.0 id may (back id at), older old new ps back all.1)
 
-one_behind : (P : SentPayload → Type 0) (ps : List SentPayload) (p : SentPayload) → AllByRecursion P ps → P p → AllByRecursion P (ps ++ p ∷ [])
-one_behind P [] p all one = (one, tt)
-one_behind P (x ∷ xs) p all one = (all.0, one_behind P xs p all.1 one)
+sent_wait : (w : WorldState) (server : ServerState) (sent : List SentPayload) → Waits w → Begin w.server.stages server.stages
+    → AllByRecursion (IsFor server.stages) sent → Waits (at_events (record w { server = server; sent = sent }))
+sent_wait w server sent k back all = record {
+  none_sent = λ plan. absurd cc;
+  all = λ plan. absurd cc;
+  devices = λ id d there at. k.devices id d there (back id at);
+  sent = all;
+}
 
 sends_wait : (w : WorldState) (server : ServerState) (to : Option ℕ) (down : Option DownlinkCommand) → Waits w → Begin w.server.stages server.stages
     → IfSome down (λ x. IsFor server.stages (record { receiver = to; down = downlink_of x })) → Waits (at_events (with_sent (record w { server = server }) to down))
-sends_wait w server to None k back own = record {
-  none_sent = λ plan. absurd cc;
-  all = λ plan. absurd cc;
-  devices = λ id d there at. k.devices id d there (back id at);
-  sent = older w.server.stages server.stages w.sent back k.sent;
-}
-sends_wait w server to (Some down) k back own = record {
-  none_sent = λ plan. absurd cc;
-  all = λ plan. absurd cc;
-  devices = λ id d there at. k.devices id d there (back id at);
-  sent = one_behind (IsFor server.stages) w.sent (record { receiver = to; down = downlink_of down }) (older w.server.stages server.stages w.sent back k.sent) own;
-}
+sends_wait w server to None k back own = sent_wait w server w.sent k back (older w.server.stages server.stages w.sent back k.sent)
+sends_wait w server to (Some down) k back own =
+    sent_wait w server (w.sent ++ record { receiver = to; down = downlink_of down } ∷ []) k back
+    (all_more (IsFor server.stages) w.sent _ (older w.server.stages server.stages w.sent back k.sent) own)
 
 -- a request
 far_from : (n : ℕ) (stages : List Stage) (stage : Stage) (o : Option Command) → numbered stages n ≡ Some stage → (stage ≡ At request.Version → ⊥)
@@ -115,15 +101,7 @@ asked_by : (plan : Plan) (image : List ℕ) (n : ℕ) (stages : List Stage) (k :
     → IfSome (by_unicast (request_at plan image k stage)) (λ x. IsFor stages (record { receiver = Some n; down = downlink_of x }))
 unfolding request_at
 asked_by plan image n stages k (At request.Version) at = λ id may here. inr (refl, refl)
-asked_by plan image n stages k (At request.Group) at = far_from n stages (At request.Group) (request_at plan image k (At request.Group)) at (λ e. cc)
-asked_by plan image n stages k (At request.Fragments) at = far_from n stages (At request.Fragments) (request_at plan image k (At request.Fragments)) at (λ e. cc)
-asked_by plan image n stages k (At request.Window) at = far_from n stages (At request.Window) (request_at plan image k (At request.Window)) at (λ e. cc)
-asked_by plan image n stages k (At request.Status) at = far_from n stages (At request.Status) (request_at plan image k (At request.Status)) at (λ e. cc)
-asked_by plan image n stages k (At request.Image) at = far_from n stages (At request.Image) (request_at plan image k (At request.Image)) at (λ e. cc)
-asked_by plan image n stages k (At request.Reboot) at = far_from n stages (At request.Reboot) (request_at plan image k (At request.Reboot)) at (λ e. cc)
-asked_by plan image n stages k (At request.Check) at = far_from n stages (At request.Check) (request_at plan image k (At request.Check)) at (λ e. cc)
-asked_by plan image n stages k Updated at = tt
-asked_by plan image n stages k (Refused r bits) at = tt
+asked_by plan image n stages k stage at = far_from n stages stage (request_at plan image k stage) at (λ e. cc)
 
 asked_calm : (server : ServerState) (n : ℕ) → IfSome (request_of server n) (λ x. IsFor server.stages (record { receiver = Some n; down = downlink_of x }))
 unfolding request_of
@@ -158,18 +136,6 @@ status_calm : (stages : List Stage) (server : ServerState) → IfSome (status_to
 unfolding status_to_all
 status_calm stages server = status_by stages _ _ (λ same. omega (arith, same))
 
-counted_same : (server counted : ServerState) (b : Bool) → counted.stages ≡ server.stages → (cond b counted server).stages ≡ server.stages
-counted_same server counted true same = same
-counted_same server counted false same = refl
-
-pub fragment_same : (server : ServerState) → (after_fragment server).stages ≡ server.stages
-unfolding after_fragment
-fragment_same server = counted_same server _ (is_ok (next_fragment server)) refl
-
-pub status_same : (server : ServerState) → (after_status_to_all server).stages ≡ server.stages
-unfolding after_status_to_all
-status_same server = counted_same server _ (is_some (status_to_all server)) refl
-
 same_begin : (old new : List Stage) → new ≡ old → Begin old new
 same_begin old new same id at = ap (λ (xs : List Stage). numbered xs id) (sym same) ∙ at
 
@@ -177,22 +143,7 @@ same_begin old new same id at = ap (λ (xs : List Stage). numbered xs id) (sym s
 
 first_rank : (stage : Stage) → rank stage ≤ 0 → stage ≡ At request.Version
 first_rank (At request.Version) low = refl
-first_rank (At request.Group) low = absurd (omega (arith, low))
-first_rank (At request.Fragments) low = absurd (omega (arith, low))
-first_rank (At request.Window) low = absurd (omega (arith, low))
-first_rank (At request.Status) low = absurd (omega (arith, low))
-first_rank (At request.Image) low = absurd (omega (arith, low))
-first_rank (At request.Reboot) low = absurd (omega (arith, low))
-first_rank (At request.Check) low = absurd (omega (arith, low))
-first_rank Updated low = absurd (omega (arith, low))
-first_rank (Refused r bits) low = absurd (omega (arith, low))
-
-pub number_first : {A : Type 0} (xs : List A) (n : ℕ) (x : A) → numbered xs n ≡ Some x → 1 ≤ n
-number_first xs n x is = by (n == 0) refl is
-  where
-    by : (b : Bool) → (n == 0) ≡ b → cond b None (slice_get xs (n - 1)) ≡ Some x → 1 ≤ n
-    by true empty there = absurd cc
-    by false other there = grind (arith, other)
+first_rank stage low = absurd (omega (arith, low))
 
 answers_begin : (server : ServerState) (dev : ℕ) (cs : List Command) (old : Option Stage) → numbered server.stages dev ≡ old → Begin server.stages (with_answers server dev cs old).stages
 answers_begin server dev cs None there id at = at
@@ -212,18 +163,12 @@ time_calm : (stages : List Stage) (to : Option ℕ) (o : Option Command) → IfS
 time_calm stages to None port = tt
 time_calm stages to (Some x) port = λ id may at. inl (λ same. omega (arith, same, port))
 
-read_waits : (w : WorldState) (dev : ℕ) (r : Reading) → Waits w → Waits (at_events (after_answer w dev (read_uplink w.server dev w.time r)))
-unfolding read_uplink
-read_waits w dev (Ok cs) k =
-    sends_wait w (with_answers w.server dev cs (ledger w.server dev)) (Some dev) (by_unicast (time_answer w.time cs)) k
-    (answers_begin w.server dev cs (ledger w.server dev) refl)
-    (time_calm (with_answers w.server dev cs (ledger w.server dev)).stages (Some dev) (time_answer w.time cs) (time_port w.time cs))
-read_waits w dev (Err refusal) k = record { none_sent = λ plan. absurd cc; all = λ plan. absurd cc; devices = k.devices; sent = k.sent }
-
 up_waits : (w : WorldState) (o : Option NumberedUplink) → Waits w → Waits (at_events (after_up w o))
-unfolding uplink_step
-up_waits w None k = record { none_sent = λ plan. absurd cc; all = λ plan. absurd cc; devices = k.devices; sent = k.sent }
-up_waits w (Some made) k = read_waits w made.device (reading_of made.uplink.port Upwards made.uplink.payload) k
+up_waits w o k =
+    up_by Waits w (record { none_sent = λ plan. absurd cc; all = λ plan. absurd cc; devices = k.devices; sent = k.sent })
+    (λ dev cs. sends_wait w (with_answers w.server dev cs (ledger w.server dev)) (Some dev) (by_unicast (time_answer w.time cs)) k
+    (answers_begin w.server dev cs (ledger w.server dev) refl)
+    (time_calm (with_answers w.server dev cs (ledger w.server dev)).stages (Some dev) (time_answer w.time cs) (time_port w.time cs))) o
 
 -- ---- an event at a device
 
@@ -297,15 +242,15 @@ form_waits w (Migrate n) fine honest k =
     (device_waits w n there.1.0 (after_migration there.1.0) there.1.1 (λ at. migration_calm there.1.0 (k.devices n there.1.0 there.1.1 at)) k)
 form_waits w (Ask n) fine honest k = sends_wait w w.server (Some n) (request_of w.server n) k (λ id at. at) (asked_calm w.server n)
 form_waits w Frag fine honest k =
-    sends_wait w (after_fragment w.server) None (result_ok (next_fragment w.server)) k (same_begin w.server.stages (after_fragment w.server).stages (fragment_same w.server)) (fragment_calm (after_fragment w.server).stages w.server)
+    sends_wait w (after_fragment w.server) None (result_ok (next_fragment w.server)) k (same_begin w.server.stages (after_fragment w.server).stages (fragment_sends w.server).stages) (fragment_calm (after_fragment w.server).stages w.server)
 form_waits w Status fine honest k =
-    sends_wait w (after_status_to_all w.server) None (status_to_all w.server) k (same_begin w.server.stages (after_status_to_all w.server).stages (status_same w.server)) (status_calm (after_status_to_all w.server).stages w.server)
+    sends_wait w (after_status_to_all w.server) None (status_to_all w.server) k (same_begin w.server.stages (after_status_to_all w.server).stages (status_sends w.server).stages) (status_calm (after_status_to_all w.server).stages w.server)
 form_waits w (Down number n word) fine honest k =
     let p = passes w (Down number n word) fine in
     let there = is_there w.devices n p.names in
     let got = payload_there n (numbered w.sent number) p.come in
     let may : may_reach n (Some got.0) ≡ true = subst (λ (o : Option SentPayload). may_reach n o ≡ true) got.1 p.come in
-    let own = get_all (IsFor w.server.stages) w.sent number got.0 k.sent got.1 in
+    let own = all_numbered (IsFor w.server.stages) w.sent number got.0 k.sent got.1 in
     rw (there.1.1, got.1) (device_waits w n there.1.0 (delivery w.time word (w.lines + 1) got.0.down there.1.0).device there.1.1
     (λ at. delivery_calm w.time word (w.lines + 1) got.0.down there.1.0 (own n may at) (k.devices n there.1.0 there.1.1 at)) k)
 form_waits w (Raw n port payload word) fine honest k = absurd (true≢false honest)
