@@ -30,6 +30,7 @@ use Rattle.pair_run.specs.Pair.{PairState, other}
 use Rattle.pair_run.specs.PairCauses.{pair_cause_of, pair_form_cause, cause_of_pair_form, common_cause, both_cause, crossing_cause, may_cross, target_cause, target_in, first_of, pair_may_come, is_next, is_apart}
 use Rattle.pair_run.specs.PairMaking.{after_target}
 use Rattle.pair_run.specs.PairScript.{after_pair_line}
+use Rattle.pair_run.proofs.EachTarget.{of_common}
 
 not_le : (a b : ℕ) → b < a → nat_le a b ≡ false
 not_le a b below = grind (arith, nat_tests)
@@ -158,11 +159,6 @@ record GoesOver (f : Form) (word : ℕ) : Type 0 where
   device : ℕ
   is : f ≡ carried_form by number device word
 
-to_one : (owner : Option Owner) (target : Owner → Target) (x : Campaign) (by : Way) (number device word : ℕ)
-    → ((o : Owner) → target o ≡ Across x by number device word → ⊥) → to_owner target owner ≡ Across x by number device word → ⊥
-to_one None target x by number device word never is = absurd cc
-to_one (Some o) target x by number device word never is = never o is
-
 over_word : (b : Bool) (own : Form) (y x : Campaign) (by to : Way) (number device word n d w : ℕ)
     → cond {A = Target} b (One y own) (Across y to n d w) ≡ Across x by number device word → w ≡ word
 over_word true own y x by to number device word n d w is = absurd cc
@@ -175,18 +171,9 @@ over_across (Some o) y x by to number device word n w is = over_word _ _ y x by 
 
 common_across : (owners : List Owner) (f : Form) (x : Campaign) (by : Way) (number device word : ℕ)
     → common_target owners f ≡ Across x by number device word → ⊥
-common_across owners form.Header x by number device word is = absurd cc
-common_across owners (form.At time) x by number device word is = absurd cc
-common_across owners form.End x by number device word is = absurd cc
-common_across owners (form.Wake n) x by number device word is =
-    to_one (numbered owners n) (λ o. One o.campaign (form.Wake o.number)) x by number device word (λ o same. absurd cc) is
-common_across owners (form.Migrate n) x by number device word is =
-    to_one (numbered owners n) (λ o. One o.campaign (form.Migrate o.number)) x by number device word (λ o same. absurd cc) is
-common_across owners (form.Power n) x by number device word is =
-    to_one (numbered owners n) (λ o. One o.campaign (form.Power o.number)) x by number device word (λ o same. absurd cc) is
-common_across owners (form.Ask n) x by number device word is =
-    to_one (numbered owners n) (λ o. One o.campaign (form.Ask o.number)) x by number device word (λ o same. absurd cc) is
-common_across owners f x by number device word is = absurd cc
+common_across owners f x by number device word =
+    of_common (λ (t : Target). t ≡ Across x by number device word → ⊥) (λ is. absurd cc) (λ time is. absurd cc) (λ is. absurd cc) (λ is. absurd cc)
+    (λ y g at is. absurd cc) owners f
 
 named_across : (owners : List Owner) (count : ℕ) (y : Campaign) (f : Form) (x : Campaign) (by : Way) (number device word : ℕ)
     → named_target owners count y f ≡ Across x by number device word → GoesOver f word

@@ -1,5 +1,6 @@
 pub mod Sides
 pub mod Pairs
+pub mod EachTarget
 pub mod Accepts
 pub mod Told
 pub mod Parts

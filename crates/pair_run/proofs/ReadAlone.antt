@@ -11,12 +11,11 @@ use Rattle.campaign_world.specs.Causes.{has_ended, cause_of}
 use Rattle.campaign_world.specs.Script.{after_line, line_result, read_line, read_lines, campaign_of}
 use Rattle.campaign_world.proofs.Lines.{ended, is_ended}
 use Rattle.pair_run.specs.Pair.{PairState, first_pair, side}
-use Rattle.pair_run.specs.PairCauses.{pair_cause_of, common_cause, target_cause, target_in}
+use Rattle.pair_run.specs.PairCauses.{pair_cause_of, target_in}
 use Rattle.pair_run.specs.PairMaking.{said_to}
 use Rattle.pair_run.specs.PairScript.{after_pair_line, pair_line_result, read_pair_line, read_pair_lines, pair_has_ended, pair_end, campaigns_of}
 use Rattle.pair_run.specs.PairLines.{line_to, lines_to, EachReadsItsLines}
-use Rattle.pair_run.proofs.Accepts.{neither, may_cross_over}
-use Rattle.pair_run.proofs.Unrefused.{unrefused, said_fine, few_of, cause_is, after_is, said_by, side_after}
+use Rattle.pair_run.proofs.Unrefused.{unrefused, cause_is, after_is, said_by, side_after}
 
 -- ---- a line is read as the campaign by itself reads what it says to it
 
@@ -28,13 +27,10 @@ one_read : (x : Campaign) (pair : PairState) (line : List ℕ) → pair_cause_of
     → read_line (side pair x) (line_to x pair line) ≡ Ok (side (after_pair_line pair line) x)
 one_read x pair line none =
     let u = unrefused pair line none in
-    let both = neither (common_cause pair u.pair_form) (target_cause pair (target_in pair u.pair_form)) u.fine in
-    let fine = said_fine x pair (target_in pair u.pair_form)
-    (λ y by number device word is. may_cross_over pair u.pair_form (target_in pair u.pair_form) y by number device word (sym both.0) refl is) both.1 in
     let says = said_by x pair line u.pair_form u.spells in
     read_is (side pair x) (line_to x pair line)
     (subst (λ (l : Line). cause_of (side pair x) l ≡ None) (sym says)
-    (cause_is (side pair x) (said_to x pair (target_in pair u.pair_form)) (few_of x pair u.few_a u.few_b) fine))
+    (cause_is (side pair x) (said_to x pair (target_in pair u.pair_form)) (u.few x) (u.fine x)))
     ∙ ap (λ (w : WorldState). let o : Result WorldState LineFault = Ok w in o)
     (ap (λ (l : Line). after_line (side pair x) l) says
     ∙ (sym (side_after x pair (target_in pair u.pair_form))

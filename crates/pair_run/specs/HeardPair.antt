@@ -1,19 +1,14 @@
 -- A pair after the lines that it has heard, whichever they were.
-use Rattle.std.specs.Prelude.{◌≡◌, ◌⊎◌, ℕ, List, [], ◌∷◌, None, Some, Result, Ok, Err}
-use Rattle.report_lines.specs.declared.faults.LineError.TheVariants as error
+use Rattle.std.specs.Prelude.{ℕ, List, [], ◌∷◌, Result}
 use Rattle.report_lines.specs.declared.faults.LineFault.{LineFault}
+use Rattle.campaign_world.specs.HeardWorld.{StateIsIf}
 use Rattle.pair_run.specs.Pair.{PairState}
 use Rattle.pair_run.specs.PairScript.{read_pair_lines}
 use Rattle.pair_run.specs.HeldPair.{HeldPair, PairStands}
 
--- it stands for the two campaigns so far, or keeps the first refused line
-abbrev pub PairIs : HeldPair → Result PairState LineFault → Type 0
-PairIs held (Ok pair) = (held.kept ≡ None) × PairStands held pair
-PairIs held (Err fault) = held.kept ≡ Some (error.Line fault)
-
--- or memory was missing
+-- it stands for the two campaigns so far, or keeps the first refused line, or memory was missing
 abbrev pub PairIsIf : HeldPair → Result PairState LineFault → Type 0
-PairIsIf held so_far = (held.kept ≡ Some error.Memory) ⊎ PairIs held so_far
+PairIsIf held so_far = StateIsIf held.kept (PairStands held) so_far
 
 -- it hears a line, whatever it was after
 abbrev pub HearsPairLine : HeldPair → List ℕ → HeldPair → Type 0

@@ -10,7 +10,7 @@ use Rattle.report_lines.specs.declared.faults.LineError.{LineError}
 use Rattle.report_lines.specs.declared.faults.LineError.TheVariants as error
 use Rattle.campaign_world.specs.declared.numbered.SentPayload.{SentPayload}
 use Rattle.campaign_world.specs.Causes.{takes_events}
-use Rattle.campaign_world.specs.HeldWorld.{HeldWorld, WorldStands, EndsStand, IsFine, world_of}
+use Rattle.campaign_world.specs.HeldWorld.{HeldWorld, WorldStands, EndsStand, IsAnswerTo, IsFine, world_of}
 use Rattle.pair_run.specs.declared.owners.Owner.{Owner}
 use Rattle.pair_run.specs.Targets.{Target, Header, At, End, One, Across, Nobody}
 use Rattle.pair_run.specs.Pair.{PairState, other}
@@ -40,10 +40,8 @@ PairKeepsEnds old new = (pair : PairState) → PairStands old pair → EndsStand
 
 -- the answer to a line: it was taken, or it is the first refused line with its first cause, or memory was missing
 abbrev pub IsPairAnswer : PairState → (line : List ℕ) → (new : HeldPair) → Result (Unit {0}) LineError → Type 0
-IsPairAnswer pair line new (Ok done) = (pair_cause_of pair line ≡ None) × PairStands new (after_pair_line pair line) × (new.kept ≡ None)
-IsPairAnswer pair line new (Err (error.Line fault)) =
-    (pair_cause_of pair line ≡ Some fault.why) × (fault.line ≡ pair.a.lines + 1) × PairStands new pair
-IsPairAnswer pair line new (Err error.Memory) = Unit {0}
+IsPairAnswer pair line new result =
+    IsAnswerTo (pair_cause_of pair line) (pair.a.lines + 1) pair (after_pair_line pair line) new.kept (PairStands new) result
 
 -- the answer of the report: it, where the script has ended, else that it has not
 abbrev pub IsPairReport : PairState → Result (List ℕ) LineError → Type 0

@@ -106,14 +106,8 @@ impl Pair {
             → IsPairReport pair (seen_text result) }
         ensures same { StaysRefused self.now.kept result }
     {
-        match self.ended() {
-            Ok(()) => {}
-            Err(error) => return Err(error),
-        }
-        match report(alloc, &self.a, &self.b, &self.owners) {
-            Ok(text) => Ok(text),
-            Err(_) => Err(LineError::Memory),
-        }
+        self.ended()?;
+        Ok(report(alloc, &self.a, &self.b, &self.owners)?)
     }
 
     /// Says that `end` has come, or else returns the fault of the line that is missing.

@@ -28,10 +28,8 @@ pub fn take_both(a: &mut World, b: &mut World, form: &Form) -> Result<(), LineEr
         (WorldBecomes b.old b.new (λ world. after_line world (Ok (Own form.now)))) }
     ensures ends { OnErr result (KeepsEnds a.old a.new × KeepsEnds b.old b.new) }
 {
-    match a.take(form) {
-        Ok(()) => b.take(form),
-        Err(error) => Err(error),
-    }
+    a.take(form)?;
+    b.take(form)
 }
 
 /// Gives a line to one; the other counts it.
@@ -44,13 +42,9 @@ fn take_one(own: &mut World, other: &mut World, form: &Form) -> Result<(), LineE
     ensures other { OnOk result (WorldBecomes other.old other.new one_line_more) }
     ensures ends { OnErr result (KeepsEnds own.old own.new × KeepsEnds other.old other.new) }
 {
-    match own.take(form) {
-        Ok(()) => {
-            other.pass();
-            Ok(())
-        }
-        Err(error) => Err(error),
-    }
+    own.take(form)?;
+    other.pass();
+    Ok(())
 }
 
 /// Gives one a line of its own; the device of a device line is the next owner.
@@ -74,20 +68,13 @@ pub fn take_own(
     let Form::Device { id, .. } = form else {
         return take_one(own, other, form);
     };
-    match owners.reserve(1) {
-        Ok(()) => {}
-        Err(_) => return Err(LineError::Memory),
-    }
-    match take_one(own, other, form) {
-        Ok(()) => {
-            owners.push_reserved(Owner {
-                campaign,
-                number: *id,
-            });
-            Ok(())
-        }
-        Err(error) => Err(error),
-    }
+    owners.reserve(1)?;
+    take_one(own, other, form)?;
+    owners.push_reserved(Owner {
+        campaign,
+        number: *id,
+    });
+    Ok(())
 }
 
 /// Takes a payload of one campaign's server to a device of the other.
@@ -106,13 +93,9 @@ pub fn cross(
         (λ world. after_line world (Ok (reached_by device word (numbered from.old.sent number))))) }
     ensures ends { OnErr result (KeepsEnds from.old from.new × KeepsEnds to.old to.new) }
 {
-    match carry(from, to, number, device, word) {
-        Ok(()) => {
-            from.pass();
-            Ok(())
-        }
-        Err(error) => Err(error),
-    }
+    carry(from, to, number, device, word)?;
+    from.pass();
+    Ok(())
 }
 
 /// Hands the payload over.
