@@ -1,5 +1,5 @@
 -- A campaign next to another is the one that it would be alone, except for the counters of its devices.
-use Rattle.std.proofs.Common.{◌≡◌, inl, inr, ℕ, zero, suc, ◌+◌, ◌-◌, ◌==◌, Bool, true, false, not, cond, List, [], ◌∷◌, ◌++◌, length, map, slice_get, nat_le, Option, Some, None, Result, Ok, Err, refl, sym, ap, ◌∙◌, subst, append-nil}
+use Rattle.std.proofs.Common.{◌≡◌, inl, inr, ℕ, zero, suc, ◌+◌, ◌-◌, ◌==◌, Bool, true, false, not, cond, List, [], ◌∷◌, ◌++◌, map, slice_get, nat_le, Option, Some, None, Result, Ok, Err, refl, sym, ap, ◌∙◌, subst, append-nil}
 use Rattle.std.specs.List.{AllZip, slice_set}
 use Rattle.std.proofs.lemmas.Bool.{and_parts}
 use Rattle.wire_base.specs.Numbered.{numbered}
@@ -31,7 +31,8 @@ use Rattle.campaign_world.proofs.Lines.{ended, is_ended}
 use Rattle.campaign_world.proofs.Zips.{numbered_found}
 use Rattle.campaign_laws.proofs.HeadlineCommands.{cut_of}
 use Rattle.campaign_laws.proofs.HeadlineEnds.{IsDeviceFor}
-use Rattle.campaign_laws.proofs.HeadlineForms.{number_there, device_there, reached_passes}
+use Rattle.campaign_laws.proofs.HeadlineForms.{reached_passes}
+use Rattle.campaign_laws.proofs.Items.{is_there}
 use Rattle.campaign_laws.proofs.HonestLines.{Stands}
 use Rattle.pair_run.specs.Counting.{counting, IsAlike}
 use Rattle.pair_run.specs.Pair.{PairState, first_pair, side}
@@ -42,6 +43,7 @@ use Rattle.isolation_laws.proofs.Rested.{Rested, reached_alike}
 use Rattle.isolation_laws.proofs.Goes.{pair_read, pair_first, pair_last, AllGo, all_go}
 use Rattle.isolation_laws.proofs.Alike.{IsPlace, Like, form_like, form_fine}
 use Rattle.pair_run.proofs.Unrefused.{cause_is}
+use Rattle.campaign_world.proofs.Sections.{by_section, never}
 
 -- ---- a payload of the other reaches a device
 
@@ -71,14 +73,9 @@ nothing_up : (d e : DeviceState) → IsAlike d e → d.outbox ≡ [] → e.outbo
 nothing_up d e alike empty = sym (ap (λ (x : DeviceState). x.outbox) alike) ∙ empty
 
 events_place : (here place : Section) → takes_events here ≡ true → IsPlace here place → IsPlace section.Events place
-events_place section.Devices place takes (inl same) = inr (refl, same)
-events_place section.Events place takes (inl same) = inl same
-events_place section.Header place takes (inl same) = absurd cc
-events_place section.Image place takes (inl same) = absurd cc
-events_place section.Group place takes (inl same) = absurd cc
-events_place section.Window place takes (inl same) = absurd cc
-events_place section.Device place takes (inl same) = absurd cc
-events_place section.Ended place takes (inl same) = absurd cc
+events_place here place takes (inl same) =
+    by_section (λ (x : Section). takes_events x ≡ true → place ≡ x → IsPlace section.Events place) never never never never never
+    (λ events is. inr (refl, is)) (λ events is. inl is) never here takes same
 events_place here place takes (inr both) = inr (refl, both.1)
 
 put_like : (w v : WorldState) (n : ℕ) (d e : DeviceState) → Like w v → takes_events w.section ≡ true → numbered w.devices n ≡ Some d
@@ -113,7 +110,7 @@ pub said_like : (image : List ℕ) (index : ℕ) (w v : WorldState) (n word : �
     → Like (after_said w (Reached n word down)) v
 said_like image index w v n word down stands rested fine honest like =
     let passes = reached_passes w n word down fine in
-    let there = device_there w.devices n (number_there (length w.devices) n passes.1) in
+    let there = (is_there w.devices n passes.1).1 in
     reached_like w v n there.0 (Receives w.time word (w.lines + 1) down) like passes.0 there.1
     (reached_alike image index w n word down there.0 stands rested fine
     (others_by (are_for_others index (reading_of down.port Downwards down.payload)) honest) there.1)

@@ -1,5 +1,5 @@
 -- Where each event of the other campaign is written as `at` its moment, a campaign is the same except for its devices' counters.
-use Rattle.std.proofs.Common.{◌≡◌, ◌⊎◌, inl, inr, ℕ, ◌≤◌, ◌<◌, ◌^◌, Bool, true, false, cond, ◌&&◌, ◌||◌, nat_le, nat_lt, List, [], ◌∷◌, ◌++◌, length, codes, Option, Some, None, Ok, refl, sym, ap, ◌∙◌, subst, arith, true≢false}
+use Rattle.std.proofs.Common.{◌≡◌, ◌⊎◌, inl, inr, ℕ, ◌≤◌, ◌<◌, ◌^◌, Bool, true, false, cond, ◌&&◌, ◌||◌, nat_le, nat_lt, List, [], ◌∷◌, ◌++◌, length, codes, Option, Some, None, Ok, refl, sym, ap, ◌∙◌, subst, arith}
 use Rattle.std.proofs.lemmas.Bool.Decides.{nat_tests}
 use Rattle.std.specs.List.{AllZip}
 use Rattle.std.specs.Fmt.{decimal}
@@ -20,9 +20,8 @@ use Rattle.campaign_generator.proofs.Decimals.{decimal_is_read}
 use Rattle.script_lines.specs.Limits.{max_lines, max_line}
 use Rattle.report_lines.specs.declared.faults.LineWhy.{LineWhy}
 use Rattle.campaign_world.specs.declared.section.Section.{Section}
-use Rattle.campaign_world.specs.declared.section.Section.TheVariants as section
 use Rattle.campaign_world.specs.World.{WorldState}
-use Rattle.campaign_world.specs.Causes.{is_event_or_end, has_ended, said_cause}
+use Rattle.campaign_world.specs.Causes.{is_event_or_end, has_ended, takes_events}
 use Rattle.campaign_world.specs.Honest.{has_raw}
 use Rattle.campaign_world.specs.Report.{numbered_lines}
 use Rattle.campaign_world.proofs.Zips.{numbered_found}
@@ -30,51 +29,22 @@ use Rattle.campaign_laws.proofs.HonestLines.{Stands}
 use Rattle.pair_run.specs.Counting.{IsAlike}
 use Rattle.pair_run.specs.Targets.{Target, At, target_of}
 use Rattle.pair_run.specs.Pair.{PairState, first_pair, side, other}
-use Rattle.pair_run.specs.PairCauses.{pair_cause_of, common_cause, target_cause, target_in}
+use Rattle.pair_run.specs.PairCauses.{pair_cause_of, target_cause, target_in}
 use Rattle.pair_run.specs.PairMaking.{said_to, after_target}
 use Rattle.pair_run.specs.PairReport.{pair_name}
 use Rattle.pair_run.specs.PairScript.{after_pair_line, pair_line_result, read_pair_line, read_pair_lines, pair_has_ended, pair_end, campaigns_of}
 use Rattle.pair_run.specs.PairLines.{image_of}
-use Rattle.pair_run.proofs.Accepts.{neither, may_cross_over}
 use Rattle.isolation_laws.specs.Isolation.{DifferInCounters}
 use Rattle.isolation_laws.specs.AtMoments.{names_it, names_one_of, is_event_of, IsAtMoment, StandsFor, AreMoments, at_text, with_moments, AreBothTold, IsOneBeside, OthersEventsAreMoments, ScriptsAreIsolated}
 use Rattle.isolation_laws.proofs.Rested.{Rested}
 use Rattle.isolation_laws.proofs.Goes.{pair_read, pair_first, pair_last, Goes, AllGo, all_go}
-use Rattle.pair_run.proofs.Unrefused.{unrefused, MayReach, said_fine, said_by, after_is}
+use Rattle.pair_run.proofs.Unrefused.{Unrefused, unrefused, said_by, after_is}
 use Rattle.isolation_laws.proofs.Alone.{ended_side, told_by}
-use Rattle.isolation_laws.proofs.Naming.{form_spelt}
+use Rattle.isolation_laws.proofs.PairFields.{form_spelt}
 use Rattle.isolation_laws.proofs.Whose.{IsOf, IsOfOther, of_it, of_other, same_target, timeless}
 use Rattle.isolation_laws.proofs.Close.{IsNear, Passed, near_takes}
 use Rattle.isolation_laws.proofs.Beside.{Beside, beside_self, each_passed, of_taken, Moment, other_taken, Clock, clock_behind, HasBegun, of_event, other_event, begun_behind, plan_over, both_take, common_too, now_common, no_cause}
-
--- ---- a line that is not refused
-
-record Spoken (p : PairState) (line : List ℕ) : Type 0 where
-  few_a : nat_le max_lines p.a.lines ≡ false
-  few_b : nat_le max_lines p.b.lines ≡ false
-  short : nat_lt max_line (length line) ≡ false
-  pair_form : PairForm
-  spells : pair_form_of line ≡ Some pair_form
-  common : common_cause p pair_form ≡ None
-  target : target_cause p (target_in p pair_form) ≡ None
-  fine : (z : Campaign) → said_cause (side p z) (said_to z p (target_in p pair_form)) ≡ None
-
-spoken : (p : PairState) (line : List ℕ) → pair_cause_of p line ≡ None → Spoken p line
-spoken p line none =
-    let u = unrefused p line none in
-    let both = neither (common_cause p u.pair_form) (target_cause p (target_in p u.pair_form)) u.fine in
-    let target : Target = target_in p u.pair_form in
-    let may : MayReach p target = λ y by number device word is. may_cross_over p u.pair_form target y by number device word (sym both.0) refl is in
-    record {
-      few_a = u.few_a;
-      few_b = u.few_b;
-      short = u.short;
-      pair_form = u.pair_form;
-      spells = u.spells;
-      common = both.0;
-      target = both.1;
-      fine = λ z. said_fine z p target may both.1;
-    }
+use Rattle.campaign_world.proofs.Sections.{by_section, never}
 
 -- ---- a line of this campaign, or of both
 
@@ -101,7 +71,7 @@ the_others : (x : Campaign) (p : PairState) (line : List ℕ) (pair_form : PairF
     → names_it (other x) pair_form.campaign || names_one_of (other x) p.owners pair_form.form ≡ true → IsOfOther x (target_in p pair_form)
 unfolding target_of
 the_others x p line pair_form spells event is =
-    of_other x p.owners (length p.a.devices) (length p.b.devices) pair_form.campaign pair_form.form event (form_spelt line pair_form spells) is
+    of_other x p.owners (length p.a.devices) (length p.b.devices) pair_form.campaign pair_form.form event (form_spelt line pair_form spells).1 is
 
 both_behind_lines : (x : Campaign) (p q : PairState) (line other_line : List ℕ) (f g : PairForm) → pair_form_of line ≡ Some f → pair_form_of other_line ≡ Some g
     → Beside x (after_target p (target_in p f)) (after_target q (target_in q g)) → Beside x (after_pair_line p line) (after_pair_line q other_line)
@@ -109,7 +79,7 @@ both_behind_lines x p q line other_line f g spells reads b =
     subst (λ (r : PairState). Beside x r (after_pair_line q other_line)) (sym (after_is p line f spells))
     (subst (λ (r : PairState). Beside x (after_target p (target_in p f)) r) (sym (after_is q other_line g reads)) b)
 
-own_line : (x : Campaign) (p q : PairState) (line : List ℕ) (s : Spoken p line) → Beside x p q → is_event_or_end s.pair_form.form ≡ true
+own_line : (x : Campaign) (p q : PairState) (line : List ℕ) (s : Unrefused p line) → Beside x p q → is_event_or_end s.pair_form.form ≡ true
     → names_it (other x) s.pair_form.campaign || names_one_of (other x) p.owners s.pair_form.form ≡ false → TakesLine x p q line line
 own_line x p q line s b event is =
     let a = each_passed x campaign.A p q b in
@@ -118,7 +88,7 @@ own_line x p q line s b event is =
     let both = of_taken x p q (target_in p s.pair_form) b (its_own x p s.pair_form event is) s.target in
     let same = target_too p q s.pair_form b.owners event in
     record {
-      fine = no_cause q line s.pair_form (few_too p.a q.a a s.few_a) (few_too p.b q.b c s.few_b) s.short s.spells
+      fine = no_cause q line s.pair_form (few_too p.a q.a a (s.few campaign.A)) (few_too p.b q.b c (s.few campaign.B)) s.short s.spells
           (common_too p q s.pair_form event s.common (near_takes p.a.section q.a.section a.place take.0) (near_takes p.b.section q.b.section c.place take.1) b.owners)
           (subst (λ (t : Target). target_cause q t ≡ None) (sym same) both.fine);
       beside = both_behind_lines x p q line line s.pair_form s.pair_form s.spells s.spells
@@ -134,7 +104,7 @@ target_now q now = refl
 short_line : (line : List ℕ) → length line ≤ max_line → nat_lt max_line (length line) ≡ false
 short_line line short = grind (arith, nat_tests)
 
-others_line : (x : Campaign) (image : List ℕ) (index : ℕ) (p q : PairState) (line other_line : List ℕ) (s : Spoken p line) → Beside x p q → Clock p
+others_line : (x : Campaign) (image : List ℕ) (index : ℕ) (p q : PairState) (line other_line : List ℕ) (s : Unrefused p line) → Beside x p q → Clock p
     → Stands image index (side p x) → Rested index (side p x) → has_raw index (Ok (said_to x p (target_in p s.pair_form))) ≡ false
     → is_event_or_end s.pair_form.form ≡ true
     → names_it (other x) s.pair_form.campaign || names_one_of (other x) p.owners s.pair_form.form ≡ true
@@ -148,7 +118,7 @@ others_line x image index p q line other_line s b clock stands rested honest eve
     let both = other_taken x image index now p q (target_in p s.pair_form) b (the_others x p line s.pair_form s.spells event is) at stands rested s.fine honest in
     let same = target_now q now in
     record {
-      fine = no_cause q other_line (record { campaign = None; form = form.At now }) (few_too p.a q.a a s.few_a) (few_too p.b q.b c s.few_b)
+      fine = no_cause q other_line (record { campaign = None; form = form.At now }) (few_too p.a q.a a (s.few campaign.A)) (few_too p.b q.b c (s.few campaign.B))
           (short_line other_line moment.short) moment.reads
           (now_common q now (near_takes p.a.section q.a.section a.place take.0) (near_takes p.b.section q.b.section c.place take.1) clock.low)
           (subst (λ (t : Target). target_cause q t ≡ None) (sym same) both.fine);
@@ -171,7 +141,7 @@ record Next (x : Campaign) (p q : PairState) (line other_line : List ℕ) : Type
   so_far : SoFar x (after_pair_line p line) (after_pair_line q other_line)
 
 -- a line of the plan
-plan_line : (x : Campaign) (p q : PairState) (line : List ℕ) (s : Spoken p line) → pair_cause_of p line ≡ None → SoFar x p q
+plan_line : (x : Campaign) (p q : PairState) (line : List ℕ) (s : Unrefused p line) → pair_cause_of p line ≡ None → SoFar x p q
     → is_event_or_end s.pair_form.form ≡ false → Next x p q line line
 plan_line x p q line s none (inl same) plan = record {
   fine = ap (λ (r : PairState). pair_cause_of r line) same ∙ none;
@@ -179,15 +149,15 @@ plan_line x p q line s none (inl same) plan = record {
 }
 plan_line x p q line s none (inr far) plan = absurd (plan_over p s.pair_form far.0 s.common plan)
 
-begun_line : (p : PairState) (line : List ℕ) (s : Spoken p line) → HasBegun (after_target p (target_in p s.pair_form)) → HasBegun (after_pair_line p line)
+begun_line : (p : PairState) (line : List ℕ) (s : Unrefused p line) → HasBegun (after_target p (target_in p s.pair_form)) → HasBegun (after_pair_line p line)
 begun_line p line s begun = subst HasBegun (sym (after_is p line s.pair_form s.spells)) begun
 
-said_honest : (x : Campaign) (image : List ℕ) (index : ℕ) (p : PairState) (line : List ℕ) (s : Spoken p line) → Goes x image index p line
+said_honest : (x : Campaign) (image : List ℕ) (index : ℕ) (p : PairState) (line : List ℕ) (s : Unrefused p line) → Goes x image index p line
     → has_raw index (Ok (said_to x p (target_in p s.pair_form))) ≡ false
 said_honest x image index p line s g =
     ap (has_raw index) (sym (said_by x p line s.pair_form s.spells) ∙ g.taken.says) ∙ g.honest
 
-by_kind : (x : Campaign) (image : List ℕ) (index : ℕ) (p q : PairState) (line other_line : List ℕ) (s : Spoken p line) (event its : Bool)
+by_kind : (x : Campaign) (image : List ℕ) (index : ℕ) (p q : PairState) (line other_line : List ℕ) (s : Unrefused p line) (event its : Bool)
     → pair_cause_of p line ≡ None → Goes x image index p line → Clock p → SoFar x p q
     → is_event_or_end s.pair_form.form ≡ event
     → names_it (other x) s.pair_form.campaign || names_one_of (other x) p.owners s.pair_form.form ≡ its
@@ -207,7 +177,7 @@ next_line : (x : Campaign) (image : List ℕ) (index : ℕ) (p q : PairState) (l
     → Goes x image index p line → Clock p → SoFar x p q → StandsFor (is_event_of (other x) p.owners (pair_form_of line)) p line other_line
     → Next x p q line other_line
 next_line x image index p q line other_line none g clock far stands =
-    let s = spoken p line none in
+    let s = unrefused p line none in
     by_kind x image index p q line other_line s (is_event_or_end s.pair_form.form)
     (names_it (other x) s.pair_form.campaign || names_one_of (other x) p.owners s.pair_form.form) none g clock far refl refl
     (subst (λ (f : Option PairForm). StandsFor (is_event_of (other x) p.owners f) p line other_line) s.spells stands)
@@ -215,10 +185,10 @@ next_line x image index p q line other_line none g clock far stands =
 clock_line : (p : PairState) (line : List ℕ) → pair_cause_of p line ≡ None → Clock p → Clock (after_pair_line p line)
 unfolding target_of
 clock_line p line none clock =
-    let s = spoken p line none in
+    let s = unrefused p line none in
     subst Clock (sym (after_is p line s.pair_form s.spells))
     (clock_behind p (target_in p s.pair_form)
-    (timeless p.owners (length p.a.devices) (length p.b.devices) s.pair_form.campaign s.pair_form.form (form_spelt line s.pair_form s.spells)) s.fine clock)
+    (timeless p.owners (length p.a.devices) (length p.b.devices) s.pair_form.campaign s.pair_form.form (form_spelt line s.pair_form s.spells).1) s.fine clock)
 
 -- ---- all lines
 
@@ -256,14 +226,9 @@ all_lines x image index (line ∷ lines) (l ∷ others) p q last k is clock far 
 
 near_ended : (here there : Section) → IsNear here there → has_ended here ≡ true → there ≡ here
 near_ended here there (inl same) is = same
-near_ended section.Ended there (inr both) is = absurd (true≢false (sym both.0))
-near_ended section.Header there (inr both) is = absurd (true≢false (sym is))
-near_ended section.Image there (inr both) is = absurd (true≢false (sym is))
-near_ended section.Group there (inr both) is = absurd (true≢false (sym is))
-near_ended section.Window there (inr both) is = absurd (true≢false (sym is))
-near_ended section.Device there (inr both) is = absurd (true≢false (sym is))
-near_ended section.Devices there (inr both) is = absurd (true≢false (sym is))
-near_ended section.Events there (inr both) is = absurd (true≢false (sym is))
+near_ended here there (inr both) is =
+    by_section (λ (x : Section). takes_events x ≡ true → has_ended x ≡ true → there ≡ x) never never never never never (λ takes. never) (λ takes. never)
+    never here both.0 is
 
 ended_too : (x z : Campaign) (p q : PairState) → Beside x p q → pair_has_ended p ≡ true → has_ended (side q z).section ≡ true
 ended_too x z p q b is =

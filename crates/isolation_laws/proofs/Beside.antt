@@ -286,19 +286,13 @@ IsEvent t = Unit {0}
 
 pub of_event : (x : Campaign) (t : Target) → IsOf x t → IsEvent t
 of_event x Header is = is
-of_event x (At time) is = tt
-of_event x End is = tt
 of_event x (One y f) is = is.1
-of_event x (Across y by number device word) is = tt
-of_event x Nobody is = tt
+of_event x t is = tt
 
 pub other_event : (x : Campaign) (t : Target) → IsOfOther x t → IsEvent t
 other_event x Header is = is
-other_event x (At time) is = tt
-other_event x End is = tt
 other_event x (One y f) is = is.1.0
-other_event x (Across y by number device word) is = tt
-other_event x Nobody is = tt
+other_event x t is = tt
 
 crossing_begins : (by : Way) (from to : WorldState) (number device word : ℕ) → crossing_cause by from to number device ≡ None
     → has_begun (after_said to (reached_by device word (numbered from.sent number))).section ≡ true

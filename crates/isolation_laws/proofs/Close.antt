@@ -5,7 +5,7 @@ use Rattle.std.proofs.lemmas.Bool.{le-leb}
 use Rattle.package_grammar.specs.declared.downlink.Downlink.{Downlink}
 use Rattle.device_core.specs.Device.{DeviceState}
 use Rattle.script_lines.specs.declared.forms.Form.{Form}
-use Rattle.script_lines.specs.declared.forms.Form.TheVariants.{Header, Image, Group, WindowC, WindowB, Device, At, Wake, Migrate, Power, Ask, Frag, Status, Down, Raw, Air, RawAir, Up, End}
+use Rattle.script_lines.specs.declared.forms.Form.TheVariants.{Header, Image, Group, WindowC, WindowB, Device, At, End}
 use Rattle.script_lines.specs.Limits.{max_time}
 use Rattle.script_lines.specs.Ranges.{in_range}
 use Rattle.report_lines.specs.declared.faults.LineWhy.TheVariants as why
@@ -17,6 +17,7 @@ use Rattle.campaign_world.specs.Causes.{is_event_or_end, is_in_order, takes_even
 use Rattle.campaign_world.specs.Making.{after_form, after_said}
 use Rattle.campaign_world.specs.Script.{one_line_more}
 use Rattle.campaign_world.specs.Honest.{has_raw}
+use Rattle.campaign_laws.proofs.Events.{by_event}
 use Rattle.campaign_laws.proofs.HonestLines.{Stands}
 use Rattle.campaign_laws.proofs.Independence.{said_told}
 use Rattle.campaign_laws.specs.Independence.{time_after}
@@ -177,20 +178,14 @@ IsCalm said = Unit {0}
 
 lone_takes : (w : WorldState) (form : Form) → IsLone form → takes_events (after_form w form).section ≡ true
 unfolding after_form
-lone_takes w (Wake n) lone = refl
-lone_takes w (Migrate n) lone = refl
-lone_takes w (Power n) lone = refl
-lone_takes w (Ask n) lone = refl
-lone_takes w Frag lone = refl
-lone_takes w Status lone = refl
-lone_takes w (Down number n word) lone = refl
-lone_takes w (Raw n port payload word) lone = refl
-lone_takes w (Air number n word) lone = refl
-lone_takes w (RawAir n bytes word) lone = refl
-lone_takes w (Up number) lone = refl
-lone_takes w (At time) lone = absurd (true≢false lone.1)
+lone_takes w Header lone = absurd (true≢false (sym lone.0))
+lone_takes w (Image size parity index) lone = absurd (true≢false (sym lone.0))
+lone_takes w (Group id addr key min max) lone = absurd (true≢false (sym lone.0))
+lone_takes w (WindowC start timeout freq dr) lone = absurd (true≢false (sym lone.0))
+lone_takes w (WindowB start periodicity timeout freq dr) lone = absurd (true≢false (sym lone.0))
+lone_takes w (Device id class hw rows offset key descriptor v1 k11 flash) lone = absurd (true≢false (sym lone.0))
 lone_takes w End lone = absurd (true≢false lone.1)
-lone_takes w form lone = absurd (true≢false (sym lone.0))
+lone_takes w form lone = refl
 
 calm_takes : (w : WorldState) (said : Said) → IsCalm said → takes_events w.section ≡ true → takes_events (after_said w said).section ≡ true
 calm_takes w (Own form) calm takes = lone_takes w form calm
@@ -218,18 +213,5 @@ passed_calm w v said now calm fine takes is passed =
 -- ---- an event has come
 
 pub event_begins : (w : WorldState) (form : Form) → is_event_or_end form ≡ true → has_begun (after_form w form).section ≡ true
-unfolding after_form
-event_begins w (At time) event = refl
-event_begins w (Wake n) event = refl
-event_begins w (Migrate n) event = refl
-event_begins w (Power n) event = refl
-event_begins w (Ask n) event = refl
-event_begins w Frag event = refl
-event_begins w Status event = refl
-event_begins w (Down number n word) event = refl
-event_begins w (Raw n port payload word) event = refl
-event_begins w (Air number n word) event = refl
-event_begins w (RawAir n bytes word) event = refl
-event_begins w (Up number) event = refl
-event_begins w End event = refl
-event_begins w form event = absurd (true≢false (sym event))
+event_begins w =
+    by_event (λ v. has_begun v.section ≡ true) w (λ time here begun. begun) (λ n form. refl) (λ s to down sends. refl) (λ dev cs. refl)

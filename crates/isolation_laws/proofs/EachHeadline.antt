@@ -30,17 +30,15 @@ use Rattle.isolation_laws.specs.Isolation.{IsScriptOfTwo}
 use Rattle.isolation_laws.specs.EachHeadline.{HasSession, part_saying, IsToldOf, EachHasItsHeadline, EachLedgerIsTrue, EachSessionLives}
 use Rattle.isolation_laws.proofs.Goes.{all_go, lines_honest, lines_fit, indexes_apart}
 
-honest : (x : Campaign) (image_a image_b : List ℕ) (lines : List (List ℕ)) (pair : PairState) → IsScriptOfTwo image_a image_b lines pair
+-- its lines are honest, and fit
+own : (x : Campaign) (image_a image_b : List ℕ) (lines : List (List ℕ)) (pair : PairState) → IsScriptOfTwo image_a image_b lines pair
     → AreHonest (side pair x).server.plan.index (own_lines x image_a image_b lines)
-honest x image_a image_b lines pair s =
-    lines_honest x (image_of x image_a image_b) (side pair x).server.plan.index (first_pair image_a image_b) lines
-    (all_go x image_a image_b lines pair s.bytes_a s.bytes_b s.accepted)
-
-fits : (x : Campaign) (image_a image_b : List ℕ) (lines : List (List ℕ)) (pair : PairState) → IsScriptOfTwo image_a image_b lines pair
-    → AllFit (side pair x).server.plan.index (own_lines x image_a image_b lines)
-fits x image_a image_b lines pair s =
-    lines_fit x (image_of x image_a image_b) (side pair x).server.plan.index (first_pair image_a image_b) lines
-    (all_go x image_a image_b lines pair s.bytes_a s.bytes_b s.accepted)
+    × AllFit (side pair x).server.plan.index (own_lines x image_a image_b lines)
+own x image_a image_b lines pair s =
+    let all = all_go x image_a image_b lines pair s.bytes_a s.bytes_b s.accepted in (
+      lines_honest x (image_of x image_a image_b) (side pair x).server.plan.index (first_pair image_a image_b) lines all,
+      lines_fit x (image_of x image_a image_b) (side pair x).server.plan.index (first_pair image_a image_b) lines all,
+    )
 
 bytes : (x : Campaign) (image_a image_b : List ℕ) (lines : List (List ℕ)) (pair : PairState) → IsScriptOfTwo image_a image_b lines pair
     → All (λ b. b < 2 ^ 8) (image_of x image_a image_b)
@@ -52,7 +50,7 @@ of_campaign : (x : Campaign) (image_a image_b : List ℕ) (lines : List (List �
     → IsCampaign (image_of x image_a image_b) (own_lines x image_a image_b lines) (side pair x) id stage device session
 of_campaign x image_a image_b lines pair id stage device session h = record {
   bytes = bytes x image_a image_b lines pair h.script;
-  honest = honest x image_a image_b lines pair h.script;
+  honest = (own x image_a image_b lines pair h.script).0;
   accepted = reads_alone x image_a image_b lines pair h.script.accepted;
   stage_is = h.stage_is;
   device_is = h.device_is;
@@ -94,32 +92,32 @@ reported x image pair number stage d s stage_is there r = record {
 pub headlines : EachHasItsHeadline
 headlines = record {
   apart = λ image_a image_b lines pair s. indexes_apart image_a image_b lines pair s.accepted;
-  honest = honest;
-  fits = fits;
+  honest = λ x image_a image_b lines pair s. (own x image_a image_b lines pair s).0;
+  fits = λ x image_a image_b lines pair s. (own x image_a image_b lines pair s).1;
   one = λ x image_a image_b lines pair id device s there.
       of_one.one (image_of x image_a image_b) (own_lines x image_a image_b lines) (side pair x) id device (bytes x image_a image_b lines pair s)
-      (fits x image_a image_b lines pair s) (honest x image_a image_b lines pair s) (reads_alone x image_a image_b lines pair s.accepted) there;
+      (own x image_a image_b lines pair s).1 (own x image_a image_b lines pair s).0 (reads_alone x image_a image_b lines pair s.accepted) there;
   served = λ x image_a image_b lines pair id stage device session h.
       of_one.served (image_of x image_a image_b) (own_lines x image_a image_b lines) (side pair x) id stage device session
-      (fits x image_a image_b lines pair h.script) (of_campaign x image_a image_b lines pair id stage device session h);
+      (own x image_a image_b lines pair h.script).1 (of_campaign x image_a image_b lines pair id stage device session h);
   brought = λ x image_a image_b lines pair id stage device session h.
       of_one.brought (image_of x image_a image_b) (own_lines x image_a image_b lines) (side pair x) id stage device session
-      (fits x image_a image_b lines pair h.script) (of_campaign x image_a image_b lines pair id stage device session h);
+      (own x image_a image_b lines pair h.script).1 (of_campaign x image_a image_b lines pair id stage device session h);
   recovered = λ x image_a image_b lines pair id stage device session h.
       of_one.recovered (image_of x image_a image_b) (own_lines x image_a image_b lines) (side pair x) id stage device session
-      (fits x image_a image_b lines pair h.script) (of_campaign x image_a image_b lines pair id stage device session h);
+      (own x image_a image_b lines pair h.script).1 (of_campaign x image_a image_b lines pair id stage device session h);
   reported = λ x image_a image_b lines pair id stage device session h.
       reported x (image_of x image_a image_b) pair id stage device session h.stage_is h.device_is
       (of_one.reported (image_of x image_a image_b) (own_lines x image_a image_b lines) (side pair x) id stage device session
-      (fits x image_a image_b lines pair h.script) (of_campaign x image_a image_b lines pair id stage device session h));
+      (own x image_a image_b lines pair h.script).1 (of_campaign x image_a image_b lines pair id stage device session h));
 }
 
 pub ledgers : EachLedgerIsTrue
 ledgers x image_a image_b lines pair id s file says =
     the_ledger_is_true (image_of x image_a image_b) (own_lines x image_a image_b lines) (side pair x) id (bytes x image_a image_b lines pair s) file
-    (fits x image_a image_b lines pair s) (honest x image_a image_b lines pair s) (reads_alone x image_a image_b lines pair s.accepted) says
+    (own x image_a image_b lines pair s).1 (own x image_a image_b lines pair s).0 (reads_alone x image_a image_b lines pair s.accepted) says
 
 pub lives : EachSessionLives
 lives x image_a image_b lines pair id device n s file there takes brings =
     live (image_of x image_a image_b) (own_lines x image_a image_b lines) (side pair x) id device n (bytes x image_a image_b lines pair s) file
-    (fits x image_a image_b lines pair s) (honest x image_a image_b lines pair s) (reads_alone x image_a image_b lines pair s.accepted) there takes brings
+    (own x image_a image_b lines pair s).1 (own x image_a image_b lines pair s).0 (reads_alone x image_a image_b lines pair s.accepted) there takes brings

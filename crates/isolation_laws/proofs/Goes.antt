@@ -21,8 +21,8 @@ use Rattle.campaign_world.specs.Honest.{is_raw, are_for_others, has_raw, AreHone
 use Rattle.campaign_laws.specs.Fields.{LineFits, AllFit}
 use Rattle.campaign_laws.proofs.HeadlineForms.{passes, is_early, not_header, not_image, reached_passes}
 use Rattle.campaign_laws.proofs.HonestLines.{Stands, first_stands, line_stands}
-use Rattle.campaign_laws.proofs.Untouched.{get_all}
-use Rattle.pair_run.specs.Pair.{PairState, first_pair, side}
+use Rattle.campaign_laws.proofs.Items.{all_numbered}
+use Rattle.pair_run.specs.Pair.{PairState, first_pair, side, other}
 use Rattle.pair_run.specs.PairCauses.{pair_cause_of}
 use Rattle.pair_run.specs.PairScript.{after_pair_line, pair_line_result, read_pair_line, read_pair_lines, pair_has_ended, pair_end, campaigns_of}
 use Rattle.pair_run.specs.PairLines.{lines_to, image_of}
@@ -178,7 +178,7 @@ said_honest : (index its : ℕ) (sent : List SentPayload) (said : Said) → Says
 said_honest index its sent (Own form) fits from tame apart = own_honest form fits
 said_honest index its sent Elsewhere fits from tame apart = refl
 said_honest index its sent (Reached n word down) fits from tame apart =
-    let its_own = get_all (IsTame its) sent from.0 from.1 tame from.2 in
+    let its_own = all_numbered (IsTame its) sent from.0 from.1 tame from.2 in
     ap not (subst (λ (d : Downlink). are_for_others index (reading_of d.port Downwards d.payload) ≡ true) from.4 (its_own.all from.3 index apart))
 
 -- ---- all lines
@@ -210,6 +210,20 @@ holds_behind x image index pair line bytes g =
       rested = subst (Rested index) (sym t.behind) (record { devices = rested.devices; sent = rested.sent });
     }
 
+-- a line goes well at a campaign whose index is not that of the other
+goes : (x : Campaign) (image : List ℕ) (pair last : PairState) (line : List ℕ) (lines : List (List ℕ)) (said : Said) (its : ℕ) → IsTaken x pair line said
+    → read_pair_lines (Ok (after_pair_line pair line)) lines ≡ Ok last → Holds x image (side last x).server.plan.index pair
+    → AllByRecursion (IsTame its) (side pair (other x)).sent → ((side last x).server.plan.index ≡ its → ⊥)
+    → Goes x image (side last x).server.plan.index pair line
+goes x image pair last line lines said its taken is holds tame apart = record {
+  said = said;
+  taken = taken;
+  stands = holds.stands;
+  rested = holds.rested;
+  fits = line_fits x pair last line lines said taken is;
+  honest = said_honest (side last x).server.plan.index its (side pair (other x)).sent said taken.fits taken.sent tame apart;
+}
+
 both_go : (image_a image_b : List ℕ) (lines : List (List ℕ)) (pair last : PairState) → All (λ b. b < 2 ^ 8) image_a → All (λ b. b < 2 ^ 8) image_b
     → (last.a.server.plan.index ≡ last.b.server.plan.index → ⊥) → read_pair_lines (Ok pair) lines ≡ Ok last
     → Holds campaign.A image_a last.a.server.plan.index pair → Holds campaign.B image_b last.b.server.plan.index pair
@@ -220,22 +234,8 @@ both_go image_a image_b (line ∷ lines) pair last bytes_a bytes_b apart is a b 
     let t = taken pair line first.0 in
     let ia : ℕ = last.a.server.plan.index in
     let ib : ℕ = last.b.server.plan.index in
-    let go_a : Goes campaign.A image_a ia pair line = record {
-      said = t.a;
-      taken = t.by_a;
-      stands = a.stands;
-      rested = a.rested;
-      fits = line_fits campaign.A pair last line lines t.a t.by_a first.1;
-      honest = said_honest ia ib pair.b.sent t.a t.by_a.fits t.by_a.sent b.rested.sent apart;
-    } in
-    let go_b : Goes campaign.B image_b ib pair line = record {
-      said = t.b;
-      taken = t.by_b;
-      stands = b.stands;
-      rested = b.rested;
-      fits = line_fits campaign.B pair last line lines t.b t.by_b first.1;
-      honest = said_honest ib ia pair.a.sent t.b t.by_b.fits t.by_b.sent a.rested.sent (λ same. apart (sym same));
-    } in
+    let go_a = goes campaign.A image_a pair last line lines t.a ib t.by_a first.1 a b.rested.sent apart in
+    let go_b = goes campaign.B image_b pair last line lines t.b ia t.by_b first.1 b a.rested.sent (λ same. apart (sym same)) in
     let more = both_go image_a image_b lines (after_pair_line pair line) last bytes_a bytes_b apart first.1
     (holds_behind campaign.A image_a ia pair line bytes_a go_a) (holds_behind campaign.B image_b ib pair line bytes_b go_b) in
     ((go_a, more.0), (go_b, more.1))

@@ -1,6 +1,5 @@
 -- The groups of two campaigns have different addresses, so that a device hears no frame of the other's.
-use Rattle.std.proofs.Common.{◌≡◌, ℕ, ◌+◌, ◌&&◌, ◌==◌, not, Bool, true, false, cond, List, [], ◌∷◌, ◌++◌, length, Option, Some, None, is_none, IfSome, Ok, refl, sym, ap, ◌∙◌, subst, true≢false, ◌^◌, ◌<◌}
-use Rattle.std.specs.Result.{result_ok}
+use Rattle.std.proofs.Common.{◌≡◌, ℕ, ◌+◌, ◌&&◌, ◌==◌, not, Bool, true, false, List, [], ◌∷◌, ◌++◌, length, Option, Some, None, is_none, IfSome, Ok, refl, sym, ap, ◌∙◌, subst, true≢false, ◌^◌, ◌<◌}
 use Rattle.std.proofs.lemmas.Bool.{and_parts, eqb-false}
 use Rattle.wire_base.specs.Numbered.{numbered}
 use Rattle.mc_group.specs.declared.group.Group.{Group}
@@ -12,8 +11,6 @@ use Rattle.device_core.specs.Device.{DeviceState}
 use Rattle.device_core.specs.Events.{Receives, HearsBytes, event_step}
 use Rattle.device_core.specs.Radio.{heard_group}
 use Rattle.campaign_server.specs.declared.plan.PlanGroup.{PlanGroup}
-use Rattle.campaign_server.specs.Asking.{request_of}
-use Rattle.campaign_server.specs.Fragments.{next_fragment, after_fragment, status_to_all, after_status_to_all}
 use Rattle.campaign_server.specs.Framing.{frame_for}
 use Rattle.script_lines.specs.declared.forms.Campaign.{Campaign}
 use Rattle.script_lines.specs.declared.forms.Campaign.TheVariants as campaign
@@ -24,30 +21,28 @@ use Rattle.script_lines.specs.PairForms.{pair_form_of}
 use Rattle.report_lines.specs.declared.faults.LineWhy.TheVariants as why
 use Rattle.campaign_world.specs.declared.numbered.SentPayload.{SentPayload}
 use Rattle.campaign_world.specs.declared.section.Section.{Section}
-use Rattle.campaign_world.specs.declared.section.Section.TheVariants as section
 use Rattle.campaign_world.specs.World.{WorldState}
 use Rattle.campaign_world.specs.Said.{Said, Own, Elsewhere, Reached}
 use Rattle.campaign_world.specs.Causes.{is_device, is_to_group, said_cause}
 use Rattle.campaign_world.specs.Making.{after_form, after_said}
-use Rattle.campaign_laws.proofs.HeadlineForms.{all_numbered}
+use Rattle.campaign_laws.proofs.Items.{all_numbered}
 use Rattle.campaign_laws.proofs.Keyed.{FitsGroup, IsDueOf, IsKept}
 use Rattle.campaign_laws.proofs.OwnGroups.{IsOwn, HasOwn}
-use Rattle.campaign_laws.proofs.PlanGroups.{fragment_plan, status_plan, given_settled, event_settled, sends_settled, up_settled}
-use Rattle.pair_run.specs.declared.owners.Owner.{Owner}
-use Rattle.pair_run.specs.declared.targets.Way.{Way}
+use Rattle.campaign_laws.proofs.PlanGroups.{given_settled, made_settled}
 use Rattle.pair_run.specs.declared.targets.Way.TheVariants as way
-use Rattle.pair_run.specs.Targets.{Target, Header, At, End, One, Across, Nobody, to_owner, carried_form, carried_target, common_target, named_target, target_for, target_of}
-use Rattle.pair_run.specs.Pair.{PairState, first_pair, side, other, is_same}
-use Rattle.pair_run.specs.PairCauses.{is_unplanned, pair_may_come, is_other_group, is_apart, may_cross, common_cause, target_cause, target_in, pair_cause_of}
-use Rattle.pair_run.specs.PairMaking.{said_to, reached_by, after_target}
+use Rattle.pair_run.specs.Targets.{Target, One, Across, named_target, target_for, target_of}
+use Rattle.pair_run.specs.Pair.{PairState, first_pair, side, other}
+use Rattle.pair_run.specs.PairCauses.{is_unplanned, pair_may_come, is_other_group, is_apart, may_cross, target_cause, target_in, pair_cause_of}
+use Rattle.pair_run.specs.PairMaking.{said_to, after_target}
 use Rattle.pair_run.specs.PairScript.{after_pair_line, read_pair_lines}
-use Rattle.pair_run.proofs.Accepts.{neither, cut_cause, may_cross_over}
+use Rattle.pair_run.proofs.Accepts.{cut_cause}
+use Rattle.pair_run.proofs.EachTarget.{is_at_device, IfOne, common_if, named_if, IfOwn, said_if}
 use Rattle.pair_run.proofs.Frames.{frames_cross}
 use Rattle.pair_run.specs.Crossing.{IsOtherAddress}
 use Rattle.isolation_laws.specs.CrossingFrames.{FramesCrossInScripts}
 use Rattle.isolation_laws.proofs.Goes.{Goes, AllGo, all_go, pair_read, pair_first, pair_last}
 use Rattle.isolation_laws.proofs.Indexes.{said_late}
-use Rattle.pair_run.proofs.Unrefused.{MayReach, said_fine, unrefused, after_is}
+use Rattle.pair_run.proofs.Unrefused.{unrefused, after_is}
 use Rattle.isolation_laws.proofs.Taken.{is_late, Common, common_passed}
 use Rattle.campaign_world.proofs.Sections.{by_section, never}
 
@@ -65,28 +60,9 @@ form_group w (form.Group id addr key min max) plain = absurd plain
 form_group w (form.WindowC start timeout freq dr) plain = refl
 form_group w (form.WindowB start periodicity timeout freq dr) plain = refl
 form_group w (form.Device id class hw rows offset key descriptor v1 k11 flash) plain = refl
-form_group w (form.At time) plain = refl
-form_group w (form.Power device) plain = refl
-form_group w (form.Wake device) plain = ap (λ p. p.group) (event_settled w device (form.Wake device)).plan
-form_group w (form.Migrate device) plain = ap (λ p. p.group) (event_settled w device (form.Migrate device)).plan
-form_group w (form.Ask device) plain =
-    ap (λ p. p.group) (sends_settled w w.server (Some device) (request_of w.server device) refl).plan
-form_group w form.Frag plain =
-    ap (λ p. p.group) (sends_settled w (after_fragment w.server) None (result_ok (next_fragment w.server)) (fragment_plan w.server)).plan
-form_group w form.Status plain =
-    ap (λ p. p.group) (sends_settled w (after_status_to_all w.server) None (status_to_all w.server) (status_plan w.server)).plan
-form_group w (form.Down number device word) plain = ap (λ p. p.group) (event_settled w device (form.Down number device word)).plan
-form_group w (form.Raw device port payload word) plain = ap (λ p. p.group) (event_settled w device (form.Raw device port payload word)).plan
-form_group w (form.Air number device word) plain = ap (λ p. p.group) (event_settled w device (form.Air number device word)).plan
-form_group w (form.RawAir device bytes word) plain = ap (λ p. p.group) (event_settled w device (form.RawAir device bytes word)).plan
-form_group w (form.Up number) plain = ap (λ p. p.group) (up_settled w (numbered w.uplinks number)).plan
-form_group w form.End plain = refl
+form_group w f plain = ap (λ p. p.group) (made_settled w f refl).plan
 
-abbrev IsPlainSaid : Said → Type 0
-IsPlainSaid (Own f) = IsNoGroup f
-IsPlainSaid said = Unit {0}
-
-said_group : (w : WorldState) (said : Said) → IsPlainSaid said → (after_said w said).server.plan.group ≡ w.server.plan.group
+said_group : (w : WorldState) (said : Said) → IfOwn IsNoGroup said → (after_said w said).server.plan.group ≡ w.server.plan.group
 said_group w (Own f) plain = form_group w f plain
 said_group w Elsewhere plain = refl
 said_group w (Reached n word down) plain =
@@ -95,26 +71,10 @@ said_group w (Reached n word down) plain =
 -- ---- what a line tells of a group
 
 abbrev IsPlain : Target → Type 0
-IsPlain (One x f) = IsNoGroup f
-IsPlain t = Unit {0}
+IsPlain t = IfOne (λ x f. IsNoGroup f) t
 
-own_plain : (b : Bool) (f : Form) → IsNoGroup f → IsPlainSaid (cond {A = Said} b (Own f) Elsewhere)
-own_plain true f plain = plain
-own_plain false f plain = tt
-
-reached_plain : (b : Bool) (device word : ℕ) (o : Option SentPayload) → IsPlainSaid (cond {A = Said} b Elsewhere (reached_by device word o))
-reached_plain true device word o = tt
-reached_plain false device word None = tt
-reached_plain false device word (Some sent) = tt
-
-says_plain : (x : Campaign) (pair : PairState) (t : Target) → IsPlain t → IsPlainSaid (said_to x pair t)
-says_plain x pair Header plain = tt
-says_plain x pair (At time) plain = tt
-says_plain x pair End plain = tt
-says_plain x pair (One y f) plain = own_plain (is_same x y) f plain
-says_plain x pair (Across y by number device word) plain =
-    reached_plain (is_same x y) device word (numbered (side pair y).sent number)
-says_plain x pair Nobody plain = tt
+says_plain : (x : Campaign) (pair : PairState) (t : Target) → IsPlain t → IfOwn IsNoGroup (said_to x pair t)
+says_plain x pair t plain = said_if (λ y f. IsNoGroup f) x tt (λ time. tt) tt pair t plain
 
 -- a line tells of no group, or of that of a before b's plan, or of another than a's
 data Tells (pair : PairState) (t : Target) : Type 0 where
@@ -124,46 +84,21 @@ data Tells (pair : PairState) (t : Target) : Type 0 where
   of_b : (id addr : ℕ) (key : List ℕ) (min max : ℕ) → t ≡ One campaign.B (form.Group id addr key min max)
       → is_other_group pair.a.server.plan.group id addr ≡ true → Tells pair t
 
-owner_plain : (o : Option Owner) (target : Owner → Target) → ((owner : Owner) → IsPlain (target owner)) → IsPlain (to_owner target o)
-owner_plain None target h = tt
-owner_plain (Some owner) target h = h owner
-
-carried_none : (by : Way) (number device word : ℕ) → IsNoGroup (carried_form by number device word)
-carried_none way.Downlink number device word = tt
-carried_none way.Air number device word = tt
-
-carried_plain : (b : Bool) (x : Campaign) (by : Way) (number word n : ℕ)
-    → IsPlain (cond {A = Target} b (One x (carried_form by number n word)) (Across x by number n word))
-carried_plain true x by number word n = carried_none by number n word
-carried_plain false x by number word n = tt
-
-common_plain : (owners : List Owner) (f : Form) → IsPlain (common_target owners f)
-common_plain owners form.Header = tt
-common_plain owners (form.At time) = tt
-common_plain owners form.End = tt
-common_plain owners (form.Wake n) = owner_plain (numbered owners n) (λ o. One o.campaign (form.Wake o.number)) (λ o. tt)
-common_plain owners (form.Migrate n) = owner_plain (numbered owners n) (λ o. One o.campaign (form.Migrate o.number)) (λ o. tt)
-common_plain owners (form.Power n) = owner_plain (numbered owners n) (λ o. One o.campaign (form.Power o.number)) (λ o. tt)
-common_plain owners (form.Ask n) = owner_plain (numbered owners n) (λ o. One o.campaign (form.Ask o.number)) (λ o. tt)
-common_plain owners f = tt
+plain_at : (x : Campaign) (f : Form) → is_at_device f ≡ true → IsNoGroup f
+plain_at x (form.Group id addr key min max) is = absurd cc
+plain_at x f is = tt
 
 named_tells : (pair : PairState) (count : ℕ) (x : Campaign) (f : Form) → pair_may_come pair.a.section pair.b.section (Some x) f ≡ true
     → is_apart pair.a.server.plan (Some x) f ≡ true → Tells pair (named_target pair.owners count x f)
-named_tells pair count x (form.Down number n word) may apart =
-    none (owner_plain (numbered pair.owners n) (λ o. carried_target x way.Downlink number word o)
-    (λ o. carried_plain (is_same o.campaign x) x way.Downlink number word o.number))
-named_tells pair count x (form.Air number n word) may apart =
-    none (owner_plain (numbered pair.owners n) (λ o. carried_target x way.Air number word o)
-    (λ o. carried_plain (is_same o.campaign x) x way.Air number word o.number))
 named_tells pair count campaign.A (form.Group id addr key min max) may apart =
     of_a id addr key min max refl (and_parts _ (is_unplanned pair.b.section) may).1
 named_tells pair count campaign.B (form.Group id addr key min max) may apart = of_b id addr key min max refl apart
-named_tells pair count x f may apart = none tt
+named_tells pair count x f may apart = none (named_if (λ y g. IsNoGroup g) plain_at pair.owners count x f tt)
 
 tells_by : (pair : PairState) (named : Option Campaign) (f : Form) → pair_may_come pair.a.section pair.b.section named f ≡ true
     → is_apart pair.a.server.plan named f ≡ true
     → Tells pair (target_for pair.owners (length pair.a.devices) (length pair.b.devices) named f)
-tells_by pair None f may apart = none (common_plain pair.owners f)
+tells_by pair None f may apart = none (common_if (λ y g. IsNoGroup g) plain_at pair.owners f)
 tells_by pair (Some x) f may apart = named_tells pair _ x f may apart
 
 tells : (pair : PairState) (pair_form : PairForm) → Common pair pair_form → Tells pair (target_in pair pair_form)
@@ -251,10 +186,8 @@ line_apart : (pair : PairState) (line : List ℕ) → pair_cause_of pair line �
 line_apart pair line fine k =
     let u = unrefused pair line fine in
     let t = target_in pair u.pair_form in
-    let both = neither (common_cause pair u.pair_form) (target_cause pair t) u.fine in
-    let may : MayReach pair t = λ y by number device word is. may_cross_over pair u.pair_form t y by number device word (sym both.0) refl is in
     subst GroupsApart (sym (after_is pair line u.pair_form u.spells))
-    (target_apart pair t (tells pair u.pair_form (common_passed pair u.pair_form both.0)) (said_fine campaign.B pair t may both.1) k)
+    (target_apart pair t (tells pair u.pair_form (common_passed pair u.pair_form u.common)) (u.fine campaign.B) k)
 
 lines_apart : (lines : List (List ℕ)) (pair last : PairState) → read_pair_lines (Ok pair) lines ≡ Ok last → GroupsApart pair → GroupsApart last
 lines_apart [] pair last is k = subst GroupsApart (pair_last pair last is) k
@@ -336,9 +269,8 @@ crossing_at : (x : Campaign) (pair : PairState) (line : List ℕ) (form : PairFo
 crossing_at x pair line form number id word fine spells says =
     let u = unrefused pair line fine in
     let same : u.pair_form ≡ form = (let both : Some u.pair_form ≡ Some form = sym u.spells ∙ spells in cc) in
-    let both = neither (common_cause pair u.pair_form) (target_cause pair (target_in pair u.pair_form)) u.fine in
     let none_left : target_cause pair (Across x way.Air number id word) ≡ None =
-    ap (target_cause pair) (sym says) ∙ ap (λ (f : PairForm). target_cause pair (target_in pair f)) (sym same) ∙ both.1 in
+    ap (target_cause pair) (sym says) ∙ ap (λ (f : PairForm). target_cause pair (target_in pair f)) (sym same) ∙ u.target in
     let one = cut_cause (is_device (length (side pair (other x)).devices) id) why.Device _ none_left in
     (cut_cause (may_cross way.Air (numbered (side pair x).sent number)) why.Unsent None one.1).0
 

@@ -1,7 +1,7 @@
 -- After its image's line a campaign has one index to the end, and fields that fit.
 use Rattle.std.proofs.Common.{◌≡◌, ℕ, true, None, Ok, refl, subst}
 use Rattle.script_lines.specs.declared.forms.Form.{Form}
-use Rattle.script_lines.specs.declared.forms.Form.TheVariants.{Header, Image, Group, WindowC, WindowB, Device, At, Wake, Migrate, Power, Ask, Frag, Status, Down, Raw, Air, RawAir, Up, End}
+use Rattle.script_lines.specs.declared.forms.Form.TheVariants.{Header, Image, Group, Device, Raw, RawAir}
 use Rattle.campaign_server.specs.Plan.{Plan}
 use Rattle.campaign_world.specs.declared.section.Section.{Section}
 use Rattle.campaign_world.specs.World.{WorldState}
@@ -40,24 +40,7 @@ at_image here size parity index =
 form_late : (w : WorldState) (form : Form) → form_cause w form ≡ None → is_late w.section ≡ true → is_late (after_form w form).section ≡ true
 unfolding after_form
 form_late w Header fine late = absurd (at_header w.section late (passes w Header fine).may)
-form_late w (Image size parity index) fine late = refl
-form_late w (Group id addr key min max) fine late = refl
-form_late w (WindowC start timeout freq dr) fine late = refl
-form_late w (WindowB start periodicity timeout freq dr) fine late = refl
-form_late w (Device id class hw rows offset key descriptor v1 k11 flash) fine late = refl
-form_late w (At time) fine late = refl
-form_late w (Power n) fine late = refl
-form_late w (Wake n) fine late = refl
-form_late w (Migrate n) fine late = refl
-form_late w (Ask n) fine late = refl
-form_late w Frag fine late = refl
-form_late w Status fine late = refl
-form_late w (Down number n word) fine late = refl
-form_late w (Raw n port payload word) fine late = refl
-form_late w (Air number n word) fine late = refl
-form_late w (RawAir n bytes word) fine late = refl
-form_late w (Up number) fine late = refl
-form_late w End fine late = refl
+form_late w form fine late = refl
 
 pub said_late : (w : WorldState) (said : Said) → said_cause w said ≡ None → is_late w.section ≡ true → is_late (after_said w said).section ≡ true
 said_late w (Own form) fine late = form_late w form fine late
@@ -72,20 +55,7 @@ not_image_fits index (Group id addr key min max) same has = has
 not_image_fits index (Device id class hw rows offset key descriptor v1 k11 flash) same has = has
 not_image_fits index (Raw n port payload word) same has = absurd has
 not_image_fits index (RawAir n bytes word) same has = absurd has
-not_image_fits index Header same has = tt
-not_image_fits index (WindowC start timeout freq dr) same has = tt
-not_image_fits index (WindowB start periodicity timeout freq dr) same has = tt
-not_image_fits index (At time) same has = tt
-not_image_fits index (Power n) same has = tt
-not_image_fits index (Wake n) same has = tt
-not_image_fits index (Migrate n) same has = tt
-not_image_fits index (Ask n) same has = tt
-not_image_fits index Frag same has = tt
-not_image_fits index Status same has = tt
-not_image_fits index (Down number n word) same has = tt
-not_image_fits index (Air number n word) same has = tt
-not_image_fits index (Up number) same has = tt
-not_image_fits index End same has = tt
+not_image_fits index form same has = tt
 
 -- a line that is late, where its campaign has this index
 pub late_fits : (w : WorldState) (said : Said) → said_cause w said ≡ None → SaysFit said → is_late w.section ≡ true

@@ -10,7 +10,6 @@ pub mod Alone
 pub mod EachHeadline
 pub mod Placed
 pub mod GroupsApart
-pub mod Naming
 pub mod Whose
 pub mod Close
 pub mod Beside

@@ -12,19 +12,13 @@ use Rattle.script_lines.specs.declared.forms.Form.{Form}
 use Rattle.script_lines.specs.declared.forms.Form.TheVariants as form
 use Rattle.script_lines.specs.declared.forms.PairForm.{PairForm}
 use Rattle.report_lines.specs.declared.faults.LineWhy.{LineWhy}
-use Rattle.campaign_server.specs.Asking.{request_of}
-use Rattle.campaign_server.specs.Fragments.{next_fragment, after_fragment, status_to_all, after_status_to_all}
-use Rattle.std.specs.Result.{result_ok}
 use Rattle.campaign_world.specs.declared.numbered.SentPayload.{SentPayload}
 use Rattle.campaign_world.specs.World.{WorldState}
 use Rattle.campaign_world.specs.Said.{Own, Elsewhere}
-use Rattle.campaign_world.specs.Making.{with_sent, event_of, with_event, after_form, after_said}
-use Rattle.campaign_server.specs.Server.{DownlinkCommand}
-use Rattle.campaign_laws.proofs.HeadlineCounts.{sent_many, event_many, up_many}
+use Rattle.campaign_world.specs.Making.{with_event, after_form, after_said}
+use Rattle.campaign_laws.proofs.HeadlineCounts.{event_many, made_many}
 use Rattle.pair_run.specs.declared.owners.Owner.{Owner}
-use Rattle.pair_run.specs.declared.targets.Way.{Way}
-use Rattle.pair_run.specs.declared.targets.Way.TheVariants as way
-use Rattle.pair_run.specs.Targets.{Target, Header, At, End, One, Across, Nobody, to_owner, carried_form, carried_target, common_target, named_target, target_for, count_of, target_of}
+use Rattle.pair_run.specs.Targets.{Target, Header, At, End, One, Across, Nobody, named_target, target_for, count_of, target_of}
 use Rattle.pair_run.specs.Pair.{PairState, first_pair, side, other, is_same}
 use Rattle.pair_run.specs.PairCauses.{pair_cause_of, target_in}
 use Rattle.pair_run.specs.PairMaking.{reached_by, behind, joined, newcomers, after_target}
@@ -34,6 +28,7 @@ use Rattle.isolation_laws.specs.EachHeadline.{owner_of}
 use Rattle.isolation_laws.specs.PairTold.{pair_report_with, EachIsReported}
 use Rattle.isolation_laws.proofs.Goes.{pair_read}
 use Rattle.pair_run.proofs.Unrefused.{unrefused, after_is}
+use Rattle.pair_run.proofs.EachTarget.{is_at_device, IfOne, common_if, named_if}
 
 -- ---- the report, parted at the lines of one device
 
@@ -94,9 +89,6 @@ IsNoDevice f = Unit {0}
 event_long : (w : WorldState) (n : ℕ) (o : Option Event) → length (with_event w n o).devices ≡ length w.devices
 event_long w n o = (event_many w n (numbered w.devices n) o).devices
 
-sent_long : (w : WorldState) (to : Option ℕ) (down : Option DownlinkCommand) → length (with_sent w to down).devices ≡ length w.devices
-sent_long w to down = (sent_many w w.server to down refl refl).devices
-
 form_long : (w : WorldState) (f : Form) → IsNoDevice f → length (after_form w f).devices ≡ length w.devices
 unfolding after_form
 form_long w form.Header plain = refl
@@ -105,30 +97,13 @@ form_long w (form.Group id addr key min max) plain = refl
 form_long w (form.WindowC start timeout freq dr) plain = refl
 form_long w (form.WindowB start periodicity timeout freq dr) plain = refl
 form_long w (form.Device id class hw rows offset key descriptor v1 k11 flash) plain = absurd plain
-form_long w (form.At time) plain = refl
-form_long w (form.Power device) plain = refl
-form_long w (form.Wake device) plain = event_long w device (event_of w.server.plan.group w.sent w.time (w.lines + 1) (form.Wake device))
-form_long w (form.Migrate device) plain = event_long w device (event_of w.server.plan.group w.sent w.time (w.lines + 1) (form.Migrate device))
-form_long w (form.Ask device) plain = sent_long w (Some device) (request_of w.server device)
-form_long w form.Frag plain = sent_long (record w { server = after_fragment w.server }) None (result_ok (next_fragment w.server))
-form_long w form.Status plain = sent_long (record w { server = after_status_to_all w.server }) None (status_to_all w.server)
-form_long w (form.Down number device word) plain =
-    event_long w device (event_of w.server.plan.group w.sent w.time (w.lines + 1) (form.Down number device word))
-form_long w (form.Raw device port payload word) plain =
-    event_long w device (event_of w.server.plan.group w.sent w.time (w.lines + 1) (form.Raw device port payload word))
-form_long w (form.Air number device word) plain =
-    event_long w device (event_of w.server.plan.group w.sent w.time (w.lines + 1) (form.Air number device word))
-form_long w (form.RawAir device bytes word) plain =
-    event_long w device (event_of w.server.plan.group w.sent w.time (w.lines + 1) (form.RawAir device bytes word))
-form_long w (form.Up number) plain = (up_many w (numbered w.uplinks number)).devices
-form_long w form.End plain = refl
+form_long w f plain = (made_many w f refl).devices
 
 -- ---- whose the next device is
 
 -- a line that tells of no new device
 abbrev IsQuiet : Target → Type 0
-IsQuiet (One x f) = IsNoDevice f
-IsQuiet t = Unit {0}
+IsQuiet t = IfOne (λ x f. IsNoDevice f) t
 
 own_long : (w : WorldState) (b : Bool) (f : Form) → IsNoDevice f → length (after_said w (cond b (Own f) Elsewhere)).devices ≡ length w.devices
 own_long w true f plain = form_long w f plain
@@ -170,47 +145,23 @@ data Joins (pair : PairState) (t : Target) : Type 0 where
 quiet : (pair : PairState) (t : Target) → IsQuiet t → Joins pair t
 quiet pair t q = nobody (quiet_joins t q) (λ x. quiet_long x pair t q)
 
-owner_quiet : (o : Option Owner) (target : Owner → Target) → ((owner : Owner) → IsQuiet (target owner)) → IsQuiet (to_owner target o)
-owner_quiet None target h = tt
-owner_quiet (Some owner) target h = h owner
-
-carried_plain : (by : Way) (number device word : ℕ) → IsNoDevice (carried_form by number device word)
-carried_plain way.Downlink number device word = tt
-carried_plain way.Air number device word = tt
-
-carried_quiet : (b : Bool) (x : Campaign) (by : Way) (number word n : ℕ)
-    → IsQuiet (cond {A = Target} b (One x (carried_form by number n word)) (Across x by number n word))
-carried_quiet true x by number word n = carried_plain by number n word
-carried_quiet false x by number word n = tt
-
-common_quiet : (owners : List Owner) (f : Form) → IsQuiet (common_target owners f)
-common_quiet owners form.Header = tt
-common_quiet owners (form.At time) = tt
-common_quiet owners form.End = tt
-common_quiet owners (form.Wake n) = owner_quiet (numbered owners n) (λ o. One o.campaign (form.Wake o.number)) (λ o. tt)
-common_quiet owners (form.Migrate n) = owner_quiet (numbered owners n) (λ o. One o.campaign (form.Migrate o.number)) (λ o. tt)
-common_quiet owners (form.Power n) = owner_quiet (numbered owners n) (λ o. One o.campaign (form.Power o.number)) (λ o. tt)
-common_quiet owners (form.Ask n) = owner_quiet (numbered owners n) (λ o. One o.campaign (form.Ask o.number)) (λ o. tt)
-common_quiet owners f = tt
+quiet_at : (x : Campaign) (f : Form) → is_at_device f ≡ true → IsNoDevice f
+quiet_at x (form.Device id class hw rows offset key descriptor v1 k11 flash) is = absurd cc
+quiet_at x f is = tt
 
 named_joins : (pair : PairState) (x : Campaign) (f : Form)
     → Joins pair (named_target pair.owners (count_of (length pair.a.devices) (length pair.b.devices) x) x f)
 unfolding after_form
-named_joins pair x (form.Down number n word) =
-    quiet pair _ (owner_quiet (numbered pair.owners n) (λ o. carried_target x way.Downlink number word o)
-    (λ o. carried_quiet (is_same o.campaign x) x way.Downlink number word o.number))
-named_joins pair x (form.Air number n word) =
-    quiet pair _ (owner_quiet (numbered pair.owners n) (λ o. carried_target x way.Air number word o)
-    (λ o. carried_quiet (is_same o.campaign x) x way.Air number word o.number))
 named_joins pair campaign.A (form.Device id class hw rows offset key descriptor v1 k11 flash) =
     next campaign.A refl (length_push pair.a.devices _) refl
 named_joins pair campaign.B (form.Device id class hw rows offset key descriptor v1 k11 flash) =
     next campaign.B refl (length_push pair.b.devices _) refl
-named_joins pair x f = quiet pair (One x f) tt
+named_joins pair x f =
+    quiet pair _ (named_if (λ y g. IsNoDevice g) quiet_at pair.owners (count_of (length pair.a.devices) (length pair.b.devices) x) x f tt)
 
 joins_by : (pair : PairState) (named : Option Campaign) (f : Form)
     → Joins pair (target_for pair.owners (length pair.a.devices) (length pair.b.devices) named f)
-joins_by pair None f = quiet pair _ (common_quiet pair.owners f)
+joins_by pair None f = quiet pair _ (common_if (λ y g. IsNoDevice g) quiet_at pair.owners f)
 joins_by pair (Some x) f = named_joins pair x f
 
 joins : (pair : PairState) (pair_form : PairForm) → Joins pair (target_in pair pair_form)

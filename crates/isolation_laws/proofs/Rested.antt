@@ -1,30 +1,30 @@
 -- Between two lines no device of a campaign has a reboot to come, and all that was sent is tame.
-use Rattle.std.proofs.Common.{◌≡◌, ℕ, zero, suc, ◌+◌, ◌-◌, ◌^◌, ◌<◌, Bool, true, false, not, List, [], ◌∷◌, All, Option, Some, None, IfSome, Ok, Err, refl, sym, ap, ◌∙◌, subst, true≢false}
+use Rattle.std.proofs.Common.{◌≡◌, ℕ, zero, suc, ◌+◌, ◌-◌, ◌^◌, ◌<◌, Bool, true, false, not, List, [], ◌∷◌, All, Option, Some, None, IfSome, Ok, refl, sym, ap, ◌∙◌, subst, true≢false}
 use Rattle.std.specs.List.{AllByRecursion, slice_set}
 use Rattle.std.specs.Result.{result_ok}
 use Rattle.wire_base.specs.Numbered.{numbered}
-use Rattle.wire_base.specs.declared.refusal.Direction.TheVariants as direction
 use Rattle.wire_base.specs.declared.refusal.Direction.TheVariants.{Down as Downwards}
 use Rattle.package_grammar.specs.declared.downlink.Downlink.{Downlink}
-use Rattle.package_grammar.specs.Reading.{Reading, reading_of}
+use Rattle.package_grammar.specs.Reading.{reading_of}
 use Rattle.device_core.specs.Device.{DeviceState, first_device}
 use Rattle.device_core.specs.Events.{Event, Wakes, Receives, Migrates, event_step, uplinks_taken}
 use Rattle.campaign_server.specs.Server.{ServerState, DownlinkCommand, ledger}
 use Rattle.campaign_server.specs.Asking.{by_unicast, request_of}
 use Rattle.campaign_server.specs.Fragments.{next_fragment, after_fragment, status_to_all, after_status_to_all}
 use Rattle.campaign_server.specs.Time.{time_answer}
-use Rattle.campaign_server.specs.Uplinks.{with_answers, read_uplink, uplink_step}
+use Rattle.campaign_server.specs.Uplinks.{with_answers}
 use Rattle.script_lines.specs.declared.forms.Form.{Form}
 use Rattle.script_lines.specs.declared.forms.Form.TheVariants.{Header, Image, Group, WindowC, WindowB, Device, At as Time, Wake, Migrate, Power, Ask, Frag, Status, Down, Raw, Air, RawAir, Up, End}
 use Rattle.campaign_world.specs.declared.numbered.NumberedUplink.{NumberedUplink}
 use Rattle.campaign_world.specs.World.{WorldState}
 use Rattle.campaign_world.specs.Said.{Said, Own, Elsewhere, Reached}
 use Rattle.campaign_world.specs.Causes.{form_cause, said_cause}
-use Rattle.campaign_world.specs.Making.{with_sent, with_device, with_event, after_answer, after_up, at_events, config_of, after_form, after_said}
+use Rattle.campaign_world.specs.Making.{with_sent, with_device, with_event, after_up, at_events, config_of, after_form, after_said}
 use Rattle.campaign_world.specs.Honest.{are_for_others, has_raw}
 use Rattle.campaign_world.proofs.Zips.{all_more}
 use Rattle.campaign_laws.specs.Headline.{HasNoOther}
-use Rattle.campaign_laws.proofs.Untouched.{get_all}
+use Rattle.campaign_laws.proofs.Events.{up_by}
+use Rattle.campaign_laws.proofs.Items.{all_numbered}
 use Rattle.campaign_laws.proofs.HeadlineCommands.{cut_of, IsCut}
 use Rattle.campaign_laws.proofs.HeadlineWorlds.{Keeps}
 use Rattle.campaign_laws.proofs.HeadlineForms.{passes, is_strange, late_cut, payload_there, reached_passes}
@@ -34,7 +34,8 @@ use Rattle.campaign_laws.proofs.Indexed.{IsIndexed, late_index, events_index}
 use Rattle.pair_run.specs.Counting.{IsAlike}
 use Rattle.pair_laws.proofs.Crossing.{counted_alone}
 use Rattle.isolation_laws.proofs.Resting.{Rests, delivery_rests, waking_rests, migration_rests}
-use Rattle.isolation_laws.proofs.Tame.{IsTame, sent_to, IsToAll, fragment_to_all, status_to_each, all_tame, asked_tame, answer_tame}
+use Rattle.campaign_laws.proofs.HeadlineEnds.{IsToAll, fragment_to_all, status_to_each}
+use Rattle.isolation_laws.proofs.Tame.{IsTame, sent_to, all_tame, asked_tame, answer_tame}
 
 -- what holds between two lines
 pub record Rested (index : ℕ) (w : WorldState) : Type 0 where
@@ -60,7 +61,7 @@ event_rested index w n None event is step k = rw is (record { devices = k.device
 event_rested index w n (Some d) event is step k = rw is (device_rested index w n (event_step d event) (step d is) k)
 
 at_device : (index : ℕ) (w : WorldState) (n : ℕ) (d : DeviceState) → Rested index w → numbered w.devices n ≡ Some d → Rests d
-at_device index w n d k there = get_all Rests w.devices n d k.devices there
+at_device index w n d k there = all_numbered Rests w.devices n d k.devices there
 
 -- ---- what is sent
 
@@ -71,17 +72,11 @@ sends_rested index w s to None fine k = record { devices = k.devices; sent = k.s
 sends_rested index w s to (Some down) fine k =
     record { devices = k.devices; sent = all_more (IsTame index) w.sent (sent_to to down) k.sent fine }
 
-read_rested : (index : ℕ) (w : WorldState) (dev t : ℕ) (r : Reading) → Rested index w
-    → Rested index (at_events (after_answer w dev (read_uplink w.server dev t r)))
-unfolding read_uplink
-read_rested index w dev t (Ok cs) k =
-    sends_rested index w (with_answers w.server dev cs (ledger w.server dev)) (Some dev) (by_unicast (time_answer t cs)) (answer_tame index dev t cs) k
-read_rested index w dev t (Err refusal) k = sends_rested index w w.server None None tt k
-
 up_rested : (index : ℕ) (w : WorldState) (o : Option NumberedUplink) → Rested index w → Rested index (at_events (after_up w o))
-unfolding uplink_step
-up_rested index w None k = record { devices = k.devices; sent = k.sent }
-up_rested index w (Some made) k = read_rested index w made.device w.time (reading_of made.uplink.port direction.Up made.uplink.payload) k
+up_rested index w o k =
+    up_by (Rested index) w (record { devices = k.devices; sent = k.sent })
+    (λ dev cs. sends_rested index w (with_answers w.server dev cs (ledger w.server dev)) (Some dev) (by_unicast (time_answer w.time cs))
+    (answer_tame index dev w.time cs) k) o
 
 to_all_sent : (image : List ℕ) (index : ℕ) (w : WorldState) (o : Option DownlinkCommand) → w.server.plan.index ≡ index → IsCut image (cut_of w.server.plan)
     → IfSome o (IsToAll image (cut_of w.server.plan)) → IfSome o (λ down. IsTame index (sent_to None down))
@@ -122,7 +117,7 @@ form_rested image index w Status keeps own fine plain k =
 form_rested image index w (Down number n word) keeps own fine plain k =
     let p = passes w (Down number n word) fine in
     let got = payload_there n (numbered w.sent number) p.come in
-    let tame = get_all (IsTame index) w.sent number got.0 k.sent got.1 in
+    let tame = all_numbered (IsTame index) w.sent number got.0 k.sent got.1 in
     rw (got.1) (event_rested index w n (numbered w.devices n) (Receives w.time word (w.lines + 1) got.0.down) refl
     (λ d there. delivery_rests w.time word (w.lines + 1) got.0.down d tame.soft (at_device index w n d k there)) k)
 form_rested image index w (Raw n port payload word) keeps own fine plain k = absurd (true≢false plain)

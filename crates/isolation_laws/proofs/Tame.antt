@@ -1,6 +1,5 @@
 -- What a server sends sets no reboot that lasts, and what it sends to all is a fragment or a status request of its own index.
-use Rattle.std.proofs.Common.{◌≡◌, ◌⊎◌, inl, inr, ℕ, ◌≤◌, Bool, true, false, not, ◌==◌, ◌&&◌, List, [], ◌∷◌, nat_lt, Option, Some, None, IfSome, Ok, refl, sym, ap, ◌∙◌, subst, arith, ne_eqb}
-use Rattle.std.specs.Result.{result_ok}
+use Rattle.std.proofs.Common.{◌≡◌, inl, inr, ℕ, ◌≤◌, true, not, ◌==◌, ◌&&◌, List, [], ◌∷◌, nat_lt, Option, Some, None, IfSome, Ok, refl, sym, ap, ◌∙◌, subst, arith, ne_eqb}
 use Rattle.std.proofs.lemmas.Bool.{lt-ltb}
 use Rattle.wire_base.specs.Numbered.{numbered}
 use Rattle.wire_base.specs.declared.refusal.Direction.TheVariants.{Down as Downwards}
@@ -23,35 +22,14 @@ use Rattle.campaign_server.specs.declared.stage.Request.TheVariants as request
 use Rattle.campaign_server.specs.Plan.{Plan, own_id}
 use Rattle.campaign_server.specs.Server.{ServerState, DownlinkCommand, port_of, downlink_of, ledger}
 use Rattle.campaign_server.specs.Asking.{fragments_request, window_request_of, window_request, group_request, cast_of, request_at, command_for, by_unicast, request_of}
-use Rattle.campaign_server.specs.Fragments.{has_no_count, next_fragment, status_to_all}
 use Rattle.campaign_server.specs.Time.{time_answer}
 use Rattle.campaign_world.specs.declared.numbered.SentPayload.{SentPayload}
 use Rattle.campaign_world.specs.Honest.{is_for_others, are_for_others}
-use Rattle.campaign_laws.proofs.HeadlineCommands.{Cut, cut_of, fragment_command, IsNumber, IsCut, IsGood, fragment_good, status_good, good_read}
-use Rattle.campaign_laws.proofs.HeadlineEnds.{IsServerOf, next_by, all_by}
+use Rattle.campaign_laws.proofs.HeadlineCommands.{Cut, IsCut, IsGood, fragment_good, status_good, good_read}
+use Rattle.campaign_laws.proofs.HeadlineEnds.{IsToAll}
 use Rattle.campaign_laws.proofs.Devices.{version_asked, image_asked, reboot_asked}
 use Rattle.campaign_laws.proofs.Keyed.{time_port}
 use Rattle.isolation_laws.proofs.Resting.{IsSoft, far_soft, one_soft}
-
--- ---- what a server sends to all
-
--- a fragment of its image, or a status request, of its own index
-abbrev pub IsToAll : (image : List ℕ) → Cut → DownlinkCommand → Type 0
-IsToAll image cut down =
-    ((n : ℕ) × IsNumber image cut.size n × (down.command ≡ fragment_command image cut n))
-    ⊎ ((all : Bool) × (down.command ≡ Cast (FragSessionStatusReq cut.index all)))
-
-pub fragment_to_all : (image : List ℕ) (s : ServerState) → IsServerOf image s
-    → IfSome (result_ok (next_fragment s)) (IsToAll image (cut_of s.plan))
-unfolding next_fragment
-fragment_to_all image s k =
-    subst (λ (i : List ℕ). IfSome (result_ok (next_fragment s)) (IsToAll i (cut_of s.plan))) k.image_is
-    (next_by (IsToAll s.image (cut_of s.plan)) s.image (cut_of s.plan) s.plan.parity s.next s.count s.plan.group _ refl k.next k.few
-    (λ fine. inl (s.next, fine, refl)))
-
-pub status_to_each : (image : List ℕ) (s : ServerState) → IfSome (status_to_all s) (IsToAll image (cut_of s.plan))
-unfolding status_to_all
-status_to_each image s = all_by (IsToAll image (cut_of s.plan)) (has_no_count s.plan.group s.count) _ (inr (false, refl))
 
 -- ---- is read as itself
 

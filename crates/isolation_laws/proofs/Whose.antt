@@ -1,6 +1,6 @@
 -- Whose an event of two campaigns is: of one that names neither the other campaign nor its devices, this one's or both take it; of
 -- one that does, only a payload that crosses over reaches this one.
-use Rattle.std.proofs.Common.{◌≡◌, ℕ, Bool, true, false, cond, ◌||◌, List, Option, Some, None, refl}
+use Rattle.std.proofs.Common.{◌≡◌, ℕ, Bool, true, false, cond, ◌||◌, List, Option, Some, None, refl, subst}
 use Rattle.wire_base.specs.Numbered.{numbered}
 use Rattle.script_lines.specs.declared.forms.Campaign.{Campaign}
 use Rattle.script_lines.specs.declared.forms.Campaign.TheVariants as campaign
@@ -13,8 +13,10 @@ use Rattle.pair_run.specs.declared.targets.Way.{Way}
 use Rattle.pair_run.specs.declared.targets.Way.TheVariants as way
 use Rattle.pair_run.specs.Targets.{Target, At, End, One, Across, Nobody, to_owner, carried_form, carried_target, common_target, named_target, target_for}
 use Rattle.pair_run.specs.Pair.{other, is_same}
+use Rattle.pair_run.proofs.EachTarget.{is_at_device, IfOne, own_form, target_if}
 use Rattle.isolation_laws.specs.AtMoments.{names_it, is_one_of, names_one_of}
-use Rattle.isolation_laws.proofs.Naming.{may_name, IsSpelt}
+use Rattle.campaign_laws.proofs.FormBytes.{may_name}
+use Rattle.isolation_laws.proofs.PairFields.{IsSpelt}
 
 -- ---- this campaign's, or both's
 
@@ -175,42 +177,22 @@ same_target owners a b c d (Some x) f event = named_alike owners _ _ x f event
 -- ---- both hear the time
 
 abbrev pub IsTimeless : Target → Type 0
-IsTimeless (One x f) = is_quiet f ≡ false
-IsTimeless target = Unit {0}
+IsTimeless target = IfOne (λ x f. is_quiet f ≡ false) target
 
-owner_timeless : (o : Option Owner) (target : Owner → Target) → ((owner : Owner) → IsTimeless (target owner)) → IsTimeless (to_owner target o)
-owner_timeless None target h = tt
-owner_timeless (Some owner) target h = h owner
+timeless_at : (x : Campaign) (f : Form) → is_at_device f ≡ true → is_quiet f ≡ false
+timeless_at x form.Header is = absurd cc
+timeless_at x (form.At time) is = absurd cc
+timeless_at x form.End is = absurd cc
+timeless_at x f is = refl
 
-carried_timeless : (b : Bool) (x : Campaign) (by : Way) (number word n : ℕ)
-    → IsTimeless (cond {A = Target} b (One x (carried_form by number n word)) (Across x by number n word))
-carried_timeless true x by number word n = (carried_lone by number n word).1
-carried_timeless false x by number word n = tt
-
-common_timeless : (owners : List Owner) (f : Form) → IsTimeless (common_target owners f)
-common_timeless owners form.Header = tt
-common_timeless owners (form.At time) = tt
-common_timeless owners form.End = tt
-common_timeless owners (form.Wake n) = owner_timeless (numbered owners n) (λ o. One o.campaign (form.Wake o.number)) (λ o. refl)
-common_timeless owners (form.Migrate n) = owner_timeless (numbered owners n) (λ o. One o.campaign (form.Migrate o.number)) (λ o. refl)
-common_timeless owners (form.Power n) = owner_timeless (numbered owners n) (λ o. One o.campaign (form.Power o.number)) (λ o. refl)
-common_timeless owners (form.Ask n) = owner_timeless (numbered owners n) (λ o. One o.campaign (form.Ask o.number)) (λ o. refl)
-common_timeless owners f = tt
-
-named_timeless : (owners : List Owner) (count : ℕ) (x : Campaign) (f : Form) → may_name f ≡ true → IsTimeless (named_target owners count x f)
-named_timeless owners count x (form.Down number n word) name =
-    owner_timeless (numbered owners n) (λ o. carried_target x way.Downlink number word o)
-    (λ o. carried_timeless (is_same o.campaign x) x way.Downlink number word o.number)
-named_timeless owners count x (form.Air number n word) name =
-    owner_timeless (numbered owners n) (λ o. carried_target x way.Air number word o)
-    (λ o. carried_timeless (is_same o.campaign x) x way.Air number word o.number)
-named_timeless owners count x (form.Device id class hw rows offset key descriptor v1 k11 flash) name = refl
-named_timeless owners count x form.Header name = absurd cc
-named_timeless owners count x (form.At time) name = absurd cc
-named_timeless owners count x form.End name = absurd cc
-named_timeless owners count x f name = refl
+own_timeless : (count : ℕ) (f : Form) → may_name f ≡ true → is_quiet (own_form count f) ≡ false
+own_timeless count form.Header name = absurd cc
+own_timeless count (form.At time) name = absurd cc
+own_timeless count form.End name = absurd cc
+own_timeless count f name = refl
 
 pub timeless : (owners : List Owner) (count_a count_b : ℕ) (named : Option Campaign) (f : Form) → IsSpelt named f
     → IsTimeless (target_for owners count_a count_b named f)
-timeless owners count_a count_b None f name = common_timeless owners f
-timeless owners count_a count_b (Some x) f name = named_timeless owners _ x f name
+timeless owners count_a count_b named f name =
+    target_if (λ x g. is_quiet g ≡ false) timeless_at owners count_a count_b named f
+    (λ x count is. own_timeless count f (subst (λ (n : Option Campaign). IsSpelt n f) is name))
