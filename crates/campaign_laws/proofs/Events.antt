@@ -1,5 +1,5 @@
 -- What a form after the plan makes of a campaign, kind by kind.
-use Rattle.std.proofs.Common.{◌≡◌, ℕ, Bool, true, false, cond, List, Option, None, Some, Ok, Err, is_ok, is_some, refl, sym, true≢false}
+use Rattle.std.proofs.Common.{◌≡◌, ℕ, true, false, cond, List, Option, None, Some, Ok, Err, is_ok, is_some, refl, sym, true≢false, ◌+◌}
 use Rattle.std.specs.Result.{result_ok}
 use Rattle.wire_base.specs.Numbered.{numbered}
 use Rattle.wire_base.specs.declared.refusal.Direction.TheVariants.{Up as Upwards}
@@ -7,7 +7,7 @@ use Rattle.package_grammar.specs.declared.command.Command.{Command}
 use Rattle.package_grammar.specs.Reading.{Reading, reading_of}
 use Rattle.campaign_server.specs.Server.{ServerState, DownlinkCommand, ledger}
 use Rattle.campaign_server.specs.Asking.{by_unicast, request_of}
-use Rattle.campaign_server.specs.Fragments.{next_fragment, after_fragment, status_to_all, after_status_to_all}
+use Rattle.campaign_server.specs.Fragments.{after_count, next_fragment, after_fragment, status_to_all, after_status_to_all}
 use Rattle.campaign_server.specs.Time.{time_answer}
 use Rattle.campaign_server.specs.Uplinks.{with_answers, read_uplink, uplink_step}
 use Rattle.script_lines.specs.declared.forms.Form.{Form}
@@ -26,17 +26,23 @@ pub record SendsOn (s new : ServerState) : Type 0 where
   pub plan : new.plan ≡ s.plan
   pub stages : new.stages ≡ s.stages
 
-sends_by : (s counted : ServerState) (b : Bool) → SendsOn s counted → SendsOn s (cond b counted s)
-sends_by s counted true k = k
-sends_by s counted false k = record { image = refl; plan = refl; stages = refl }
+still : (s : ServerState) → SendsOn s s
+still s = record { image = refl; plan = refl; stages = refl }
 
+-- a count goes on where something was sent
 pub fragment_sends : (s : ServerState) → SendsOn s (after_fragment s)
 unfolding after_fragment
-fragment_sends s = sends_by s _ (is_ok (next_fragment s)) (record { image = refl; plan = refl; stages = refl })
+fragment_sends s = elim (is_ok (next_fragment s)) as (λ b. SendsOn s (cond b (after_count (record s { next = s.next + 1 })) s)) [
+  | true ↦ record { image = refl; plan = refl; stages = refl }
+  | false ↦ still s
+]
 
 pub status_sends : (s : ServerState) → SendsOn s (after_status_to_all s)
 unfolding after_status_to_all
-status_sends s = sends_by s _ (is_some (status_to_all s)) (record { image = refl; plan = refl; stages = refl })
+status_sends s = elim (is_some (status_to_all s)) as (λ b. SendsOn s (cond b (after_count s) s)) [
+  | true ↦ record { image = refl; plan = refl; stages = refl }
+  | false ↦ still s
+]
 
 -- ---- what comes after an uplink
 
@@ -66,18 +72,18 @@ pub by_event : (R : WorldState → Type 0) (w : WorldState)
     → ((dev : ℕ) (cs : List Command) → R (answered w dev cs))
     → (form : Form) → is_event_or_end form ≡ true → R (after_form w form)
 unfolding after_form
-by_event R w still happens sends answers (At time) is = still time section.Events refl
-by_event R w still happens sends answers (Wake n) is = happens n (Wake n)
-by_event R w still happens sends answers (Migrate n) is = happens n (Migrate n)
-by_event R w still happens sends answers (Power n) is = still w.time section.Events refl
-by_event R w still happens sends answers (Ask n) is =
-    sends w.server (Some n) (request_of w.server n) (record { image = refl; plan = refl; stages = refl })
-by_event R w still happens sends answers Frag is = sends (after_fragment w.server) None (result_ok (next_fragment w.server)) (fragment_sends w.server)
-by_event R w still happens sends answers Status is = sends (after_status_to_all w.server) None (status_to_all w.server) (status_sends w.server)
-by_event R w still happens sends answers (Down number n word) is = happens n (Down number n word)
-by_event R w still happens sends answers (Raw n port payload word) is = happens n (Raw n port payload word)
-by_event R w still happens sends answers (Air number n word) is = happens n (Air number n word)
-by_event R w still happens sends answers (RawAir n bytes word) is = happens n (RawAir n bytes word)
-by_event R w still happens sends answers (Up number) is = up_by R w (still w.time section.Events refl) answers (numbered w.uplinks number)
-by_event R w still happens sends answers End is = still w.time section.Ended refl
-by_event R w still happens sends answers form is = absurd (true≢false (sym is))
+by_event R w stays happens sends answers (At time) is = stays time section.Events refl
+by_event R w stays happens sends answers (Wake n) is = happens n (Wake n)
+by_event R w stays happens sends answers (Migrate n) is = happens n (Migrate n)
+by_event R w stays happens sends answers (Power n) is = stays w.time section.Events refl
+by_event R w stays happens sends answers (Ask n) is =
+    sends w.server (Some n) (request_of w.server n) (still w.server)
+by_event R w stays happens sends answers Frag is = sends (after_fragment w.server) None (result_ok (next_fragment w.server)) (fragment_sends w.server)
+by_event R w stays happens sends answers Status is = sends (after_status_to_all w.server) None (status_to_all w.server) (status_sends w.server)
+by_event R w stays happens sends answers (Down number n word) is = happens n (Down number n word)
+by_event R w stays happens sends answers (Raw n port payload word) is = happens n (Raw n port payload word)
+by_event R w stays happens sends answers (Air number n word) is = happens n (Air number n word)
+by_event R w stays happens sends answers (RawAir n bytes word) is = happens n (RawAir n bytes word)
+by_event R w stays happens sends answers (Up number) is = up_by R w (stays w.time section.Events refl) answers (numbered w.uplinks number)
+by_event R w stays happens sends answers End is = stays w.time section.Ended refl
+by_event R w stays happens sends answers form is = absurd (true≢false (sym is))

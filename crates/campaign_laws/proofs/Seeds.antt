@@ -270,9 +270,7 @@ had_all each n high = let inside : nat_le n 8 ≡ true = grind (arith, high) in 
 
 joined_stand : (image : List ℕ) (w : WorldState) → Joined image 8 w → Stand image 0 0 1 (AtTurn (Early image) 2 0 0) w
 joined_stand image w j = record {
-  image_is = ap (λ (s : ServerState). s.image) j.server;
-  plan = j.plan;
-  time = j.time;
+  seed = record { image_is = ap (λ (s : ServerState). s.image) j.server; plan_is = j.plan; time_is = j.time };
   count = j.count;
   stages = ap (λ (s : ServerState). length s.stages) j.server ∙ all_there;
   takes = j.events (omega arith);

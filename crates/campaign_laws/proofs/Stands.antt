@@ -110,11 +110,15 @@ pub record IsOne (P : ℕ → DeviceState → Stage → Type 0) (w : WorldState)
   pub key : (k : PlanDevice) × (numbered w.server.plan.devices n ≡ Some k)
   pub holds : P n d s
 
+-- the server's image and plan are a seed's, and no time has passed
+pub record IsOfSeed (image own : List ℕ) (plan : Plan) (time : ℕ) : Type 0 where
+  pub image_is : own ≡ image
+  pub plan_is : IsPlan plan
+  pub time_is : time ≡ 0
+
 -- so many payloads and uplinks, fragments up to the next, and of each device this holds
 pub record Stand (image : List ℕ) (payloads answers from : ℕ) (P : ℕ → DeviceState → Stage → Type 0) (w : WorldState) : Type 0 where
-  pub image_is : w.server.image ≡ image
-  pub plan : IsPlan w.server.plan
-  pub time : w.time ≡ 0
+  pub seed : IsOfSeed image w.server.image w.server.plan w.time
   pub count : length w.devices ≡ 8
   pub stages : length w.server.stages ≡ 8
   pub takes : Takes w.section
@@ -128,9 +132,7 @@ pub stand_within : (image : List ℕ) (payloads answers from : ℕ) (P Q : ℕ �
     → ((n : ℕ) (d : DeviceState) (s : Stage) → 1 ≤ n → n ≤ 8 → P n d s → Q n d s)
     → Stand image payloads answers from P w → Stand image payloads answers from Q w
 stand_within image payloads answers from P Q w f k = record {
-  image_is = k.image_is;
-  plan = k.plan;
-  time = k.time;
+  seed = k.seed;
   count = k.count;
   stages = k.stages;
   takes = k.takes;
@@ -279,8 +281,8 @@ turn_to image payloads answers from P P' w n low high k mine others = by (k.each
             rw (← k.sent, ← k.ups) (weaker w (forms_of_turn n (length w.sent + 1) (length w.uplinks + 1)) (λ v. v ≡ turned w n e s c a u)
             (Stand image (length w.sent + 1) (length w.uplinks + 1) from P')
             (λ v is. subst (Stand image (length w.sent + 1) (length w.uplinks + 1) from P') (sym is) stands)
-            (turn_plays w n d one.key.0 s c a p (may_come_at image payloads answers from P w n k low high) k.time one.device one.key.1 one.stage
-            (ap (λ (i : List ℕ). request_at w.server.plan i one.key.0 s) k.image_is ∙ t.ask w.server.plan one.key.0 k.plan) t.answer t.read t.silent))
+            (turn_plays w n d one.key.0 s c a p (may_come_at image payloads answers from P w n k low high) k.seed.time_is one.device one.key.1 one.stage
+            (ap (λ (i : List ℕ). request_at w.server.plan i one.key.0 s) k.seed.image_is ∙ t.ask w.server.plan one.key.0 k.seed.plan_is) t.answer t.read t.silent))
           where
             u : Uplink
             u = uplink_of (record { due = 0; port = p; command = a })
@@ -308,7 +310,7 @@ turn_to image payloads answers from P P' w n low high k mine others = by (k.each
                     stage = r.1;
                     key = (one.key.0, subst (λ (j : ℕ). numbered w.server.plan.devices j ≡ Some one.key.0) q.0 one.key.1);
                     holds = subst (λ (j : ℕ). P' j device' stage') q.0
-                        (subst (λ (i : List ℕ). P' n device' (stage_after w.server.plan i s a)) (sym k.image_is) (t.after (w.lines + 1 + 1) w.server.plan k.plan));
+                        (subst (λ (i : List ℕ). P' n device' (stage_after w.server.plan i s a)) (sym k.seed.image_is) (t.after (w.lines + 1 + 1) w.server.plan k.seed.plan_is));
                   },
                 )
                 by_case (inl q) (inr r) = absurd (r.0 q.0)
@@ -318,9 +320,7 @@ turn_to image payloads answers from P P' w n low high k mine others = by (k.each
 
             stands : Stand image (length w.sent + 1) (length w.uplinks + 1) from P' (turned w n e s c a u)
             stands = record {
-              image_is = k.image_is;
-              plan = k.plan;
-              time = k.time;
+              seed = k.seed;
               count = length_set w.devices (n - 1) device' ∙ k.count;
               stages = length_set w.server.stages (n - 1) stage' ∙ k.stages;
               takes = takes_events;
@@ -353,7 +353,7 @@ pub frag_to : (image : List ℕ) (payloads answers from : ℕ) (P : ℕ → Devi
     → from ≤ nb_frag_of (length image) 64 + 128 → Stand image payloads answers from P w → To w (Frag ∷ []) (Stand image (payloads + 1) answers (from + 1) P)
 frag_to image payloads answers from P w at first low k =
     weaker w (Frag ∷ []) _ (Stand image (payloads + 1) answers (from + 1) P) (λ v is. subst (Stand image (payloads + 1) answers (from + 1) P) (sym is) stands)
-    (frag_plays image w from k.takes k.image_is k.plan k.next low)
+    (frag_plays image w from k.takes k.seed.image_is k.seed.plan_is k.next low)
   where
     frags : (n : ℕ) → 1 ≤ n → n < from + 1 → numbered (w.sent ++ sent_fragment image from ∷ []) (16 + n) ≡ Some (sent_fragment image n)
     frags n l h = by (n == from) refl
@@ -371,9 +371,7 @@ frag_to image payloads answers from P w at first low k =
       sent = w.sent ++ sent_fragment image from ∷ [];
     })
     stands = record {
-      image_is = k.image_is;
-      plan = k.plan;
-      time = k.time;
+      seed = k.seed;
       count = k.count;
       stages = k.stages;
       takes = takes_events;
@@ -406,7 +404,7 @@ down_to image payloads answers from P P' w n j low high some there k mine others
         heard = (delivery w.time 0 (w.lines + 1) (unicast_of c) d).device
 
         heard_is : heard ≡ behind (w.lines + 1) c d
-        heard_is = ap (λ (t : ℕ). (delivery t 0 (w.lines + 1) (unicast_of c) d).device) k.time
+        heard_is = ap (λ (t : ℕ). (delivery t 0 (w.lines + 1) (unicast_of c) d).device) k.seed.time_is
 
         made : ((behind (w.lines + 1) c d).outbox ≡ []) × P' n (behind (w.lines + 1) c d) s
         made = mine d s one.holds (w.lines + 1)
@@ -440,9 +438,7 @@ down_to image payloads answers from P P' w n j low high some there k mine others
 
         stands : Stand image payloads answers from P' (reached w n heard)
         stands = record {
-          image_is = k.image_is;
-          plan = k.plan;
-          time = k.time;
+          seed = k.seed;
           count = length_set w.devices (n - 1) device' ∙ k.count;
           stages = k.stages;
           takes = takes_events;
