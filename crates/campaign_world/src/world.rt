@@ -162,8 +162,7 @@ impl World {
             → IsReport world (seen_text result) }
         ensures same { StaysRefused self.now.kept result }
     {
-        let campaign = self.played()?;
-        Ok(campaign.report(alloc)?)
+        Ok(self.played()?.report(alloc)?)
     }
 
     /// Makes the summary of the campaign, once `end` has come: what was sent and heard, and how many devices have the image.
@@ -172,8 +171,7 @@ impl World {
             → IsSummary world (seen_text result) }
         ensures same { StaysRefused self.now.kept result }
     {
-        let campaign = self.played()?;
-        Ok(campaign.summary(alloc)?)
+        Ok(self.played()?.summary(alloc)?)
     }
 
     /// Says that `end` has come, or else returns the fault of the line that is missing.

@@ -32,22 +32,7 @@ pub fn take_both(a: &mut World, b: &mut World, form: &Form) -> Result<(), LineEr
     b.take(form)
 }
 
-/// Gives a line to one; the other counts it.
-fn take_one(own: &mut World, other: &mut World, form: &Form) -> Result<(), LineError>
-    requires fine { IsFine own.old form.now }
-    requires room { own.old.lines < max_lines }
-    requires room_other { other.old.lines < max_lines }
-    ensures own { OnOk result
-        (WorldBecomes own.old own.new (λ world. after_line world (Ok (Own form.now)))) }
-    ensures other { OnOk result (WorldBecomes other.old other.new one_line_more) }
-    ensures ends { OnErr result (KeepsEnds own.old own.new × KeepsEnds other.old other.new) }
-{
-    own.take(form)?;
-    other.pass();
-    Ok(())
-}
-
-/// Gives one a line of its own; the device of a device line is the next owner.
+/// Gives one a line of its own, which the other counts; the device of a device line is the next owner.
 pub fn take_own(
     own: &mut World,
     other: &mut World,
@@ -66,10 +51,13 @@ pub fn take_own(
     ensures ends { OnErr result (KeepsEnds own.old own.new × KeepsEnds other.old other.new) }
 {
     let Form::Device { id, .. } = form else {
-        return take_one(own, other, form);
+        own.take(form)?;
+        other.pass();
+        return Ok(());
     };
     owners.reserve(1)?;
-    take_one(own, other, form)?;
+    own.take(form)?;
+    other.pass();
     owners.push_reserved(Owner {
         campaign,
         number: *id,
