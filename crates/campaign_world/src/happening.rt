@@ -50,10 +50,7 @@ pub fn happen(
     ensures devices { OnErr result (devices.new.items ≡ devices.old.items) }
     ensures uplinks { OnErr result (uplinks.new.items ≡ uplinks.old.items) }
 {
-    match reserve_for(uplinks, event) {
-        Ok(()) => {}
-        Err(error) => return Err(error),
-    }
+    reserve_for(uplinks, event)?;
     let late = &mut devices[id as usize - 1];
     happen_late(late, alloc, uplinks, id, event)
 }
@@ -92,10 +89,7 @@ fn happen_late(
         happen_at(device, uplinks, id, event);
         return Ok(());
     }
-    let mut device = match created(alloc, late.config) {
-        Ok(device) => device,
-        Err(error) => return Err(error),
-    };
+    let mut device = created(alloc, late.config)?;
     happen_at(&mut device, uplinks, id, event);
     late.device = Some(device);
     Ok(())

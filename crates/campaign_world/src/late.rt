@@ -73,10 +73,7 @@ pub fn created(alloc: Global, config: DeviceConfig) -> Result<Box<Device<CellFla
     ensures { IfOk result (λ device. IsAtRest device.value (first_device config)) }
 {
     let size = if config.held { 4 * config.span } else { 0 };
-    let flash = match CellFlash::reserve(alloc, size) {
-        Ok(flash) => flash,
-        Err(error) => return Err(error),
-    };
+    let flash = CellFlash::reserve(alloc, size)?;
     let mut device = match Device::reserve(alloc, config, flash) {
         Ok(device) => device,
         Err(ReserveError::Memory) => return Err(AllocError),

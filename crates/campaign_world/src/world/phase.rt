@@ -74,10 +74,7 @@ impl Phase {
         if !is_event_or_end(form) {
             return planning.line(lines, form);
         }
-        let mut campaign = match planning.begin(alloc) {
-            Ok(campaign) => campaign,
-            Err(error) => return Err(error),
-        };
+        let mut campaign = planning.begin(alloc)?;
         let played = campaign.event(lines, form);
         *self = Phase::Playing {
             campaign,
@@ -108,10 +105,7 @@ impl Phase {
     {
         match self {
             Phase::Planning(planning) => {
-                let mut campaign = match planning.begin(alloc) {
-                    Ok(campaign) => campaign,
-                    Err(error) => return Err(error),
-                };
+                let mut campaign = planning.begin(alloc)?;
                 let played = campaign.raw(lines, device, down, word);
                 *self = Phase::Playing {
                     campaign,

@@ -13,4 +13,4 @@ returns-clause-taken c = rw (c.in-Planning.is, c.is_end.ensures)
     (played_step c.args.lines c.in-Planning.planning.section (planned_by c.in-Planning.planning) c.event-played.new.self c.event-played.result c.args.form.now
     (sym c.is_event_or_end.ensures ∙ c.if-not-is_event_or_end.false)
     (subst (λ (h : HeldCampaign). Plays c.args.lines h c.event-played.new.self c.event-played.result (λ world. at_events (after_form world c.args.form.now)))
-    c.in-Ok.ensures.begun c.event-played.ensures.taken))
+    c.in_ok-campaign.ensures.begun c.event-played.ensures.taken))

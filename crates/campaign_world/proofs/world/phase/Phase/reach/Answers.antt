@@ -5,11 +5,11 @@ use Rattle.campaign_world.specs.HeldWorld.{HeldCampaign, Plays}
 use Rattle.campaign_world.proofs.Beside.{plays_on}
 use Rattle.campaign_world.proofs.world.phase.Phase.reach.Goals as goal
 
-pub returns-in-Ok-clause-taken : goal.returns-in-Ok-clause-taken
-returns-in-Ok-clause-taken c = rw (c.in-Planning.is)
+pub returns-in_ok-campaign-in-Planning-clause-taken : goal.returns-in_ok-campaign-in-Planning-clause-taken
+returns-in_ok-campaign-in-Planning-clause-taken c = rw (c.in-Planning.is)
     (subst (λ (h : HeldCampaign). Plays c.args.lines h c.raw-played.new.self c.raw-played.result
     (λ world. after_said world (Reached c.args.device c.args.word c.args.down.now)))
-    c.in-Ok.ensures.begun c.raw-played.ensures.taken c.in-Planning.planning.section)
+    c.in_ok-campaign-in-Planning.ensures.begun c.raw-played.ensures.taken c.in-Planning.planning.section)
 
 pub returns-in-Playing-clause-taken : goal.returns-in-Playing-clause-taken
 returns-in-Playing-clause-taken c = rw (c.in-Playing.is)
