@@ -65,23 +65,7 @@ with_line lines w (Own (Device name class hw rows offset key descriptor v1 k11 f
             v1,
             k11,
             flash,
-            record {
-              line_is = line_is;
-              says = ap (λ (n : ℕ). let l : Line = Ok (Own (Device n class hw rows offset key descriptor v1 k11 flash)) in l) (next ∙ sym new.2);
-              class_is = class_same class;
-              hw_is = refl;
-              rows_are = refl;
-              offset_is = refl;
-              key_is = refl;
-              descriptor_is = refl;
-              formats_are = refl;
-              root_is = refl;
-              sessions_are = refl;
-              groups_are = refl;
-              area_is = refl;
-              held_is = refl;
-              span_is = refl;
-            },
+            assumption (line_is, ap (λ (n : ℕ). let l : Line = Ok (Own (Device n class hw rows offset key descriptor v1 k11 flash)) in l) (next ∙ sym new.2), class_same class),
           )
     ]
 with_line lines w said fine line_is h id =
