@@ -131,17 +131,10 @@ pub record Stand (image : List ℕ) (payloads answers from : ℕ) (P : ℕ → D
 pub stand_within : (image : List ℕ) (payloads answers from : ℕ) (P Q : ℕ → DeviceState → Stage → Type 0) (w : WorldState)
     → ((n : ℕ) (d : DeviceState) (s : Stage) → 1 ≤ n → n ≤ 8 → P n d s → Q n d s)
     → Stand image payloads answers from P w → Stand image payloads answers from Q w
-stand_within image payloads answers from P Q w f k = record {
-  seed = k.seed;
-  count = k.count;
-  stages = k.stages;
-  takes = k.takes;
-  sent = k.sent;
-  ups = k.ups;
-  next = k.next;
-  frags = k.frags;
-  each = λ n l h. (let o = k.each n l h in (o.0, o.1, record { device = o.2.device; stage = o.2.stage; key = o.2.key; holds = f n o.0 o.1 l h o.2.holds }));
-}
+stand_within image payloads answers from P Q w f k =
+    let each : (n : ℕ) → 1 ≤ n → n ≤ 8 → (d : DeviceState) × (s : Stage) × IsOne Q w n d s = λ n l h.
+    (let o = k.each n l h in (o.0, o.1, record { device = o.2.device; stage = o.2.stage; key = o.2.key; holds = f n o.0 o.1 l h o.2.holds })) in
+    assumption (k, each)
 
 -- ---- one line
 

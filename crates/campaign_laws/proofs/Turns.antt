@@ -33,11 +33,7 @@ use Rattle.campaign_laws.proofs.Hearing.{IsMade, IsNew, IsReady, is_cut, no_bits
 
 -- its last uplink doesn't matter
 plain_holding : (e : DeviceState) → IsPlain e → IsPlain (holding [] e)
-plain_holding e plain = record {
-  config = plain.config;
-  reboot = plain.reboot;
-  outbox = refl;
-}
+plain_holding e plain = record { config = plain.config; reboot = plain.reboot; outbox = refl }
 
 -- ---- the first two turns
 

@@ -99,19 +99,9 @@ carried_by : (lines : List Line) (group : Option PlanGroup) (sent : List SentPay
     (line : Line) → numbered lines n ≡ Some line
     → event_in id group sent time n line ≡ Some (Receives t v l down) → IsAt time n t l
     → AreCarried (Carries lines group sent id) n down
-carried_by lines group sent id time n t v l down line line_is is at cs message c among = inl (
-  line,
-  time,
-  v,
-  down,
-  cs,
-  record {
-    line_is = line_is;
-    event = is ∙ ap (λ (x : ℕ). Some (Receives x v l down)) at.0 ∙ ap (λ (x : ℕ). Some (Receives time v x down)) at.1;
-    message = message;
-    among = among;
-  },
-)
+carried_by lines group sent id time n t v l down line line_is is at cs message c among =
+    let event = is ∙ ap (λ (x : ℕ). Some (Receives x v l down)) at.0 ∙ ap (λ (x : ℕ). Some (Receives time v x down)) at.1 in
+    inl (line, time, v, down, cs, assumption (line_is, event, message, among))
 
 -- and what is opened of its bytes
 opened_by : (lines : List Line) (group : Option PlanGroup) (sent : List SentPayload) (id time n t v l : ℕ) (bytes : List ℕ)
@@ -119,23 +109,9 @@ opened_by : (lines : List Line) (group : Option PlanGroup) (sent : List SentPayl
     → event_in id group sent time n line ≡ Some (HearsBytes t v l bytes) → IsAt time n t l
     → record_behind lines (take (n - 1) lines) group sent id ≡ Some d
     → (down : Downlink) → brought d bytes ≡ Ok down → AreCarried (Carries lines group sent id) n down
-opened_by lines group sent id time n t v l bytes line d line_is is at here down opened cs message c among = inr (
-  line,
-  time,
-  v,
-  bytes,
-  d,
-  down,
-  cs,
-  record {
-    line_is = line_is;
-    event = is ∙ ap (λ (x : ℕ). Some (HearsBytes x v l bytes)) at.0 ∙ ap (λ (x : ℕ). Some (HearsBytes time v x bytes)) at.1;
-    device_is = here;
-    opened = opened;
-    message = message;
-    among = among;
-  },
-)
+opened_by lines group sent id time n t v l bytes line d line_is is at here down opened cs message c among =
+    let event = is ∙ ap (λ (x : ℕ). Some (HearsBytes x v l bytes)) at.0 ∙ ap (λ (x : ℕ). Some (HearsBytes time v x bytes)) at.1 in
+    inr (line, time, v, bytes, d, down, cs, assumption (line_is, event, here, opened, message, among))
 
 -- ---- a device after its lines
 
