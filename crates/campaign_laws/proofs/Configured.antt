@@ -52,21 +52,10 @@ with_line lines w (Own (Device name class hw rows offset key descriptor v1 k11 f
           let both = and_parts _ (name == length w.devices + 1)
           (passes w (Device name class hw rows offset key descriptor v1 k11 flash) fine).ranged in
           let next : name ≡ length w.devices + 1 = eqb-true _ _ both.1 in
-          some_is (λ (d : DeviceState). IsOfItsLine lines id d.config) _
-          (device_of class hw rows offset key descriptor v1 k11 flash) new.1 (
-            w.lines + 1,
-            Ok (Own (Device name class hw rows offset key descriptor v1 k11 flash)),
-            class,
-            hw,
-            rows,
-            offset,
-            key,
-            descriptor,
-            v1,
-            k11,
-            flash,
-            assumption (line_is, ap (λ (n : ℕ). let l : Line = Ok (Own (Device n class hw rows offset key descriptor v1 k11 flash)) in l) (next ∙ sym new.2), class_same class),
-          )
+          let line : Line = Ok (Own (Device name class hw rows offset key descriptor v1 k11 flash)) in
+          let says = ap (λ (n : ℕ). let l : Line = Ok (Own (Device n class hw rows offset key descriptor v1 k11 flash)) in l) (next ∙ sym new.2) in
+          some_is (λ (d : DeviceState). IsOfItsLine lines id d.config) _ (device_of class hw rows offset key descriptor v1 k11 flash) new.1
+          (w.lines + 1, line, class, hw, rows, offset, key, descriptor, v1, k11, flash, assumption (line_is, says, class_same class))
     ]
 with_line lines w said fine line_is h id =
     subst (λ (ds : List DeviceState). IfSome (numbered ds id) (λ d. IsOfItsLine lines id d.config))
