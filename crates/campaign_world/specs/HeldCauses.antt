@@ -66,11 +66,13 @@ abbrev pub power_cause : (count : ℕ) → (flash : List ℕ) → (device : ℕ)
 power_cause count flash device =
     unless (is_device count device && list_any (λ id. id == device) flash) why.Device None
 
+-- with a random word, at a device
+abbrev pub word_cause : (count device word : ℕ) → (rest : Option LineWhy) → Option LineWhy
+word_cause count device word rest = unless (is_u32 word) why.Range (unless (is_device count device) why.Device rest)
+
 abbrev pub down_cause : (count : ℕ) → List SentPayload → (number device word : ℕ) → Option LineWhy
 down_cause count sent number device word =
-    unless (is_u32 word) why.Range
-    (unless (is_device count device) why.Device
-    (unless (may_reach device (numbered sent number)) why.Unsent None))
+    word_cause count device word (unless (may_reach device (numbered sent number)) why.Unsent None)
 
 abbrev pub raw_cause : (count device port : ℕ) → (payload : List ℕ) → (word : ℕ) → Option LineWhy
 raw_cause count device port payload word =
@@ -80,12 +82,10 @@ raw_cause count device port payload word =
 
 abbrev pub air_cause : (count : ℕ) → List SentPayload → (number device word : ℕ) → Option LineWhy
 air_cause count sent number device word =
-    unless (is_u32 word) why.Range
-    (unless (is_device count device) why.Device
-    (unless (may_reach device (numbered sent number) && goes_out (numbered sent number)) why.Unsent None))
+    word_cause count device word (unless (may_reach device (numbered sent number) && goes_out (numbered sent number)) why.Unsent None)
 
 abbrev pub raw_air_cause : (count device word : ℕ) → Option LineWhy
-raw_air_cause count device word = unless (is_u32 word) why.Range (device_cause count device)
+raw_air_cause count device word = word_cause count device word None
 
 abbrev pub up_cause : (now : ℕ) → List NumberedUplink → (number : ℕ) → Option LineWhy
 up_cause now uplinks number = unless (is_due_by now (numbered uplinks number)) why.Unsent None

@@ -3,7 +3,7 @@
 ghost use Rattle.std.specs.Prelude.{◌≡◌, None, length, option_map};
 ghost use Rattle.wire_base.specs.Numbered.{numbered};
 ghost use Rattle.campaign_world.specs.Causes.{may_reach, goes_out};
-ghost use Rattle.campaign_world.specs.HeldCauses.{unless, sent_of, uplinks_of, has_fragment, has_status, planned_facts, played_facts, event_cause, down_cause, raw_cause, air_cause, raw_air_cause, device_cause, power_cause, up_cause, at_cause, planned_cause};
+ghost use Rattle.campaign_world.specs.HeldCauses.{unless, sent_of, uplinks_of, has_fragment, has_status, planned_facts, played_facts, event_cause, word_cause, down_cause, raw_cause, air_cause, raw_air_cause, device_cause, power_cause, up_cause, at_cause, planned_cause};
 ghost use Rattle.campaign_world.specs.PhaseInside.{IsPlanningOf};
 
 use super::events::Campaign;
@@ -111,6 +111,19 @@ fn power_cause(count: usize, flash: &[u64], device: u64) -> Option<LineWhy>
     unless(has_flash, LineWhy::Device)
 }
 
+/// The first cause of a form that brings a random word to a device: of the word, of the device, or the rest.
+fn word_cause(count: usize, device: u64, word: u64, rest: Option<LineWhy>) -> Option<LineWhy>
+    ensures { result ≡ word_cause count device word rest }
+{
+    if !is_u32(word) {
+        return Some(LineWhy::Range);
+    }
+    if !is_device(count, device) {
+        return Some(LineWhy::Device);
+    }
+    rest
+}
+
 fn down_cause(
     count: usize,
     campaign: Option<&Campaign>,
@@ -121,13 +134,8 @@ fn down_cause(
     ensures { result
         ≡ down_cause count (sent_of (option_map (λ c. c.now) campaign.entry)) number device word }
 {
-    if !is_u32(word) {
-        return Some(LineWhy::Range);
-    }
-    if !is_device(count, device) {
-        return Some(LineWhy::Device);
-    }
-    unless(is_for(campaign, number, device), LineWhy::Unsent)
+    let unsent = unless(is_for(campaign, number, device), LineWhy::Unsent);
+    word_cause(count, device, word, unsent)
 }
 
 fn raw_cause(count: usize, device: u64, port: u64, payload: &HexBytes, word: u64) -> Option<LineWhy>
@@ -152,23 +160,14 @@ fn air_cause(
     ensures { result
         ≡ air_cause count (sent_of (option_map (λ c. c.now) campaign.entry)) number device word }
 {
-    if !is_u32(word) {
-        return Some(LineWhy::Range);
-    }
-    if !is_device(count, device) {
-        return Some(LineWhy::Device);
-    }
     let is_framed = is_for(campaign, number, device) && has_frame(campaign, number);
-    unless(is_framed, LineWhy::Unsent)
+    word_cause(count, device, word, unless(is_framed, LineWhy::Unsent))
 }
 
 fn raw_air_cause(count: usize, device: u64, word: u64) -> Option<LineWhy>
     ensures { result ≡ raw_air_cause count device word }
 {
-    if !is_u32(word) {
-        return Some(LineWhy::Range);
-    }
-    device_cause(count, device)
+    word_cause(count, device, word, None)
 }
 
 fn up_cause(now: u64, campaign: Option<&Campaign>, number: u64) -> Option<LineWhy>
