@@ -26,13 +26,9 @@ pub extern "C" fn fuota_server_frame(
     ensures frame { Tells handle.old.held (λ x. GivesFrame x down.now into.old into.new result)
         ((result ≡ 0) × (into.new ≡ into.old)) }
 {
-    match handle.take(alloc) {
+    match handle.get_mut() {
         None => 0,
-        Some(server) => {
-            let count = put_frame(&server, down, into);
-            *handle = ServerHandle::of(server);
-            count
-        }
+        Some(server) => put_frame(server, down, into),
     }
 }
 

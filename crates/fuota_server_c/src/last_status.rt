@@ -33,13 +33,9 @@ pub extern "C" fn fuota_server_last_status(
     ensures status { Tells handle.old.held (λ x. TellsStatus x dev out.old out.new result)
         ((result ≡ no_object) × (out.new ≡ out.old)) }
 {
-    match handle.take(alloc) {
+    match handle.get_mut() {
         None => NO_OBJECT,
-        Some(server) => {
-            let answer = tell_status(&server, dev, out);
-            *handle = ServerHandle::of(server);
-            answer
-        }
+        Some(server) => tell_status(server, dev, out),
     }
 }
 

@@ -14,7 +14,7 @@ use crate::plan::{PlanDeviceFields, PlanFields, field_number, plan_of};
 use crate::server::fuota_server_free;
 use crate::server_handle::ServerHandle;
 use c_base::answer::{CORRUPT, DONE, NO_MEMORY, RANGE, REFUSED};
-use c_base::put_whole;
+use c_base::{Handle, put_whole};
 use campaign_server::RestoreError;
 use image_slots::is_image;
 use std::alloc::{AllocError, Global};
@@ -31,13 +31,9 @@ pub extern "C" fn fuota_server_save(
     ensures saved { Tells handle.old.held (λ x. Whole (saved_of x) into.old into.new result)
         ((result ≡ 0) × (into.new ≡ into.old)) }
 {
-    match handle.take(alloc) {
+    match handle.get_mut() {
         None => 0,
-        Some(server) => {
-            let count = put_whole(server.save().as_slice(), into);
-            *handle = ServerHandle::of(server);
-            count
-        }
+        Some(server) => put_whole(server.save().as_slice(), into),
     }
 }
 
@@ -62,7 +58,7 @@ pub extern "C" fn fuota_server_restore(
     }
     match boxed(alloc, plan, devices, image, saved) {
         Ok(server) => {
-            *handle = ServerHandle::of(server);
+            *handle = ServerHandle::of_handle(Handle::of(server));
             DONE
         }
         Err(RestoreError::BadPlan(wrong)) => {

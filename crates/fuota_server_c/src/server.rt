@@ -13,6 +13,7 @@ use crate::campaign::Campaign;
 use crate::plan::{PlanDeviceFields, PlanFields, field_number, plan_of};
 use crate::sent::{DownFields, put_down};
 use crate::server_handle::ServerHandle;
+use c_base::Handle;
 use c_base::answer::{DONE, NO_MEMORY, NO_OBJECT, NOTHING, RANGE, REFUSED, SPENT};
 use campaign_server::{Request, ServerError, Spent, Stage};
 use image_slots::is_image;
@@ -51,7 +52,7 @@ pub extern "C" fn fuota_server_new(
     }
     match boxed(alloc, plan, devices, image) {
         Ok(server) => {
-            *handle = ServerHandle::of(server);
+            *handle = ServerHandle::of_handle(Handle::of(server));
             DONE
         }
         Err(ServerError::BadPlan(wrong)) => {
@@ -90,8 +91,8 @@ fn boxed(
 pub extern "C" fn fuota_server_free(handle: &mut ServerHandle, alloc: Global)
     ensures { handle.new.held ≡ None }
 {
-    // It is dropped here, and its memory with it.
-    let _server = handle.take(alloc);
+    // What it had is dropped here, and its memory with it.
+    *handle = ServerHandle::of_handle(Handle::none(alloc));
 }
 
 /// Writes the next fragment to all devices: done; nothing where all were sent; spent where the group's frame counts are used up.
@@ -104,13 +105,9 @@ pub extern "C" fn fuota_server_next_fragment(
     ensures { Does handle.old.held handle.new.held (λ x y. SendsFragment x y out.old out.new result)
         ((result ≡ no_object) × (out.new ≡ out.old)) }
 {
-    match handle.take(alloc) {
+    match handle.get_mut() {
         None => NO_OBJECT,
-        Some(mut server) => {
-            let answer = next_fragment(&mut server, out);
-            *handle = ServerHandle::of(server);
-            answer
-        }
+        Some(server) => next_fragment(server, out),
     }
 }
 
@@ -138,13 +135,9 @@ pub extern "C" fn fuota_server_status_all(
     ensures { Does handle.old.held handle.new.held (λ x y. SendsStatus x y out.old out.new result)
         ((result ≡ no_object) × (out.new ≡ out.old)) }
 {
-    match handle.take(alloc) {
+    match handle.get_mut() {
         None => NO_OBJECT,
-        Some(mut server) => {
-            let answer = put_or(server.status_all(), SPENT, out);
-            *handle = ServerHandle::of(server);
-            answer
-        }
+        Some(server) => put_or(server.status_all(), SPENT, out),
     }
 }
 
@@ -173,13 +166,9 @@ pub extern "C" fn fuota_server_ask(
     ensures asks { Tells handle.old.held (λ x. Asks x dev out.old out.new result)
         ((result ≡ no_object) × (out.new ≡ out.old)) }
 {
-    match handle.take(alloc) {
+    match handle.get_mut() {
         None => NO_OBJECT,
-        Some(server) => {
-            let answer = ask(&server, dev, out);
-            *handle = ServerHandle::of(server);
-            answer
-        }
+        Some(server) => ask(server, dev, out),
     }
 }
 
@@ -210,13 +199,9 @@ pub extern "C" fn fuota_server_uplink(
         out.old out.new result)
         ((result ≡ no_object) × (out.new ≡ out.old)) }
 {
-    match handle.take(alloc) {
+    match handle.get_mut() {
         None => NO_OBJECT,
-        Some(mut server) => {
-            let answer = uplink(&mut server, dev, port, payload, t, out);
-            *handle = ServerHandle::of(server);
-            answer
-        }
+        Some(server) => uplink(server, dev, port, payload, t, out),
     }
 }
 
@@ -252,13 +237,9 @@ pub extern "C" fn fuota_server_ledger(
     ensures stage { Tells handle.old.held (λ x. TellsStage x dev out.old out.new result)
         ((result ≡ no_object) × (out.new ≡ out.old)) }
 {
-    match handle.take(alloc) {
+    match handle.get_mut() {
         None => NO_OBJECT,
-        Some(server) => {
-            let answer = tell_stage(&server, dev, out);
-            *handle = ServerHandle::of(server);
-            answer
-        }
+        Some(server) => tell_stage(server, dev, out),
     }
 }
 

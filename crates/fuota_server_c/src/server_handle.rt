@@ -7,7 +7,6 @@ use crate::campaign::Campaign;
 use c_base::Handle;
 use std::alloc::Global;
 use std::marker::Model;
-use std::mem::replace;
 
 /// The place of a server in memory, or none. To C it is one pointer.
 #[repr(C)]
@@ -33,23 +32,25 @@ impl Drop for ServerHandle {
 }
 
 impl ServerHandle {
-    /// Makes the handle of a server.
-    pub fn of(server: Box<Campaign>) -> ServerHandle
-        ensures { result.held ≡ Some server.value }
+    ghost use Rattle.std.specs.Borrow.{LendsIf, sem};
+    ghost use Rattle.fuota_server_c.specs.Held.{server_row};
+    ghost use Rattle.fuota_server_c.specs.contracts.server_handle.ServerHandle.{the_row};
+
+    /// Lends the server, where there is one.
+    pub fn get_mut(&mut self) -> Option<&mut Campaign>
+        ensures* lends { sem 𝓛 (LendsIf the_row server_row self.entry result
+            (λ w. record self.entry.now { held = Some w }) self.entry.now) }
+        ensures value { option_map (λ x. x.now) result ≡ self.old.held }
     {
-        ServerHandle::of_handle(Handle::of(server))
+        let at = self.at as *mut Campaign;
+        if at.is_null() {
+            return None;
+        }
+        Some(unsafe { &mut *at })
     }
 
-    /// Takes the server out of the handle, where there is one.
-    pub fn take(&mut self, alloc: Global) -> Option<Box<Campaign>>
-        ensures value { option_map (λ b. b.value) result ≡ self.old.held }
-        ensures none { self.new.held ≡ None }
-    {
-        let none = ServerHandle::of_handle(Handle::none(alloc));
-        replace(self, none).into_handle().into_box()
-    }
-
-    fn of_handle(handle: Handle<Campaign>) -> ServerHandle
+    /// Makes the struct for C of a handle.
+    pub fn of_handle(handle: Handle<Campaign>) -> ServerHandle
         ensures { result.held ≡ handle.held }
     {
         let Handle { at, alloc } = handle;
