@@ -1,4 +1,4 @@
 pub mod Values
 pub mod Handles
-pub mod Moves
+pub mod Swaps
 pub mod Lends

@@ -58,7 +58,7 @@ pub extern "C" fn fuota_server_restore(
     }
     match boxed(alloc, plan, devices, image, saved) {
         Ok(server) => {
-            *handle = ServerHandle::of_handle(Handle::of(server));
+            let _none = handle.replace(Handle::of(server)).into_box();
             DONE
         }
         Err(RestoreError::BadPlan(wrong)) => {

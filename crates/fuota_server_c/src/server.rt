@@ -52,7 +52,7 @@ pub extern "C" fn fuota_server_new(
     }
     match boxed(alloc, plan, devices, image) {
         Ok(server) => {
-            *handle = ServerHandle::of_handle(Handle::of(server));
+            let _none = handle.replace(Handle::of(server)).into_box();
             DONE
         }
         Err(ServerError::BadPlan(wrong)) => {
@@ -91,8 +91,8 @@ fn boxed(
 pub extern "C" fn fuota_server_free(handle: &mut ServerHandle, alloc: Global)
     ensures { handle.new.held ≡ None }
 {
-    // What it had is dropped here, and its memory with it.
-    *handle = ServerHandle::of_handle(Handle::none(alloc));
+    // It is dropped here, and its memory with it.
+    let _server = handle.replace(Handle::none(alloc)).into_box();
 }
 
 /// Writes the next fragment to all devices: done; nothing where all were sent; spent where the group's frame counts are used up.

@@ -1,6 +1,6 @@
 //! A server as C holds it.
 
-ghost use Rattle.std.specs.Prelude.{◌≡◌, Option, None, Some, option_map};
+ghost use Rattle.std.specs.Prelude.{◌≡◌, Option, Some, option_map};
 ghost use Rattle.campaign_server.specs.Server.{ServerState};
 
 use crate::campaign::Campaign;
@@ -23,14 +23,6 @@ impl Model for ServerHandle {
     ghost also_owns = { λ h. held_at server_row h.alloc h.at h.held };
 }
 
-impl Drop for ServerHandle {
-    /// Frees the server, where there is one.
-    fn drop(self) {
-        // dropped at the end of this block
-        let _server = self.into_handle().into_box();
-    }
-}
-
 impl ServerHandle {
     ghost use Rattle.std.specs.Borrow.{LendsIf, sem};
     ghost use Rattle.fuota_server_c.specs.Held.{server_row};
@@ -49,24 +41,14 @@ impl ServerHandle {
         Some(unsafe { &mut *at })
     }
 
-    /// Makes the struct for C of a handle.
-    pub fn of_handle(handle: Handle<Campaign>) -> ServerHandle
-        ensures { result.held ≡ handle.held }
+    /// Puts what a handle has in the place of what this one has, which it returns.
+    pub fn replace(&mut self, handle: Handle<Campaign>) -> Handle<Campaign>
+        ensures old { result.held ≡ self.old.held }
+        ensures new { self.new.held ≡ handle.held }
     {
         let Handle { at, alloc } = handle;
-        ServerHandle {
-            at: at as *mut u8,
-            alloc,
-        }
-    }
-
-    fn into_handle(self) -> Handle<Campaign>
-        ensures { result.held ≡ self.held }
-    {
-        let ServerHandle { at, alloc } = self;
-        Handle {
-            at: at as *mut Campaign,
-            alloc,
-        }
+        let old = self.at as *mut Campaign;
+        self.at = at as *mut u8;
+        Handle { at: old, alloc }
     }
 }
