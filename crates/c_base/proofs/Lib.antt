@@ -1,4 +1,3 @@
 pub mod Values
 pub mod Handles
-pub mod Swaps
-pub mod Lends
+pub mod Structs

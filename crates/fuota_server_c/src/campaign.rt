@@ -73,11 +73,11 @@ impl Campaign {
         }
     }
 
-    /// Returns what it knows, as bytes that `restore` takes again.
-    pub fn save(&self) -> SavedServer
-        ensures { result.items ≡ saved_of self.now }
+    /// The server, for what only reads.
+    pub fn server(&self) -> &Server
+        ensures { result.now ≡ self.now }
     {
-        self.server.save()
+        &self.server
     }
 
     /// Says whether the plan has a device of this number.
@@ -85,14 +85,6 @@ impl Campaign {
         ensures { result ≡ has_device self.now dev }
     {
         1 <= dev && dev as usize <= self.devices
-    }
-
-    /// Returns what is asked of a device, by unicast; None exactly at updated and refused.
-    pub fn ask(&self, dev: u8) -> Option<Downlink>
-        requires { has_device self.now dev ≡ true }
-        ensures { result ≡ down_of (request_of self.now dev) }
-    {
-        self.server.ask(dev)
     }
 
     /// Makes the next fragment to all devices.
@@ -111,21 +103,6 @@ impl Campaign {
         self.server.status_all()
     }
 
-    /// Says whether a payload has a frame: it is to the plan's group, and its port isn't 0.
-    pub fn has_frame(&self, down: &Downlink) -> bool
-        ensures { result ≡ has_frame self.now.plan.group down.now }
-    {
-        self.server.has_frame(down)
-    }
-
-    /// Makes the frame of a payload to the plan's group.
-    pub fn frame(&self, down: &Downlink) -> Frame
-        requires { has_frame self.now.plan.group down.now ≡ true }
-        ensures { result.items ≡ frame_for self.now.plan.group down.now }
-    {
-        self.server.frame(down)
-    }
-
     /// Takes an uplink of a device on a port, at `t` ms of GPS time.
     pub fn uplink(
         &mut self,
@@ -139,21 +116,5 @@ impl Campaign {
         ensures answer { result ≡ answer_of (uplink_step self.old dev port payload.now t).answer }
     {
         self.server.uplink(dev, port, payload, t)
-    }
-
-    /// Returns what a device said last of the campaign's session; None where it said nothing.
-    pub fn last_status(&self, dev: u8) -> Option<LastStatus>
-        requires { has_device self.now dev ≡ true }
-        ensures { Some result ≡ last_status self.now dev }
-    {
-        self.server.last_status(dev)
-    }
-
-    /// Returns the stage of a device.
-    pub fn ledger(&self, dev: u8) -> Stage
-        requires { has_device self.now dev ≡ true }
-        ensures { Some result ≡ ledger self.now dev }
-    {
-        self.server.ledger(dev)
     }
 }

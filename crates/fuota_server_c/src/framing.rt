@@ -5,10 +5,10 @@ ghost use Rattle.wire_base.specs.Payload.{max_payload};
 ghost use Rattle.c_base.specs.Calls.{Tells};
 ghost use Rattle.fuota_server_c.specs.Sent.{GivesFrame, downlink_of, to_of};
 
-use crate::campaign::Campaign;
 use crate::sent::DownFields;
 use crate::server_handle::ServerHandle;
 use c_base::put_whole;
+use campaign_server::Server;
 use package_grammar::{Downlink, To};
 use std::alloc::Global;
 use wire_base::{MAX_PAYLOAD, Payload};
@@ -28,11 +28,11 @@ pub extern "C" fn fuota_server_frame(
 {
     match handle.get_mut() {
         None => 0,
-        Some(server) => put_frame(server, down, into),
+        Some(campaign) => put_frame(campaign.server(), down, into),
     }
 }
 
-fn put_frame(server: &Campaign, fields: &DownFields, into: &mut [u8]) -> usize
+fn put_frame(server: &Server, fields: &DownFields, into: &mut [u8]) -> usize
     ensures { GivesFrame server.now fields.now into.old into.new result }
 {
     if fields.length > MAX_PAYLOAD {

@@ -39,13 +39,13 @@ pub extern "C" fn fuota_server_last_status(
     }
 }
 
-fn tell_status(server: &Campaign, dev: u8, out: &mut StatusFields) -> u8
-    ensures { TellsStatus server.now dev out.old out.new result }
+fn tell_status(campaign: &Campaign, dev: u8, out: &mut StatusFields) -> u8
+    ensures { TellsStatus campaign.now dev out.old out.new result }
 {
-    if !server.has_device(dev) {
+    if !campaign.has_device(dev) {
         return RANGE;
     }
-    match server.last_status(dev) {
+    match campaign.server().last_status(dev) {
         None => NOTHING,
         Some(status) => {
             *out = status_fields(status);

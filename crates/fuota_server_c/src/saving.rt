@@ -33,7 +33,7 @@ pub extern "C" fn fuota_server_save(
 {
     match handle.get_mut() {
         None => 0,
-        Some(server) => put_whole(server.save().as_slice(), into),
+        Some(campaign) => put_whole(campaign.server().save().as_slice(), into),
     }
 }
 

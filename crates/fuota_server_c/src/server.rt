@@ -172,13 +172,13 @@ pub extern "C" fn fuota_server_ask(
     }
 }
 
-fn ask(server: &Campaign, dev: u8, out: &mut DownFields) -> u8
-    ensures { Asks server.now dev out.old out.new result }
+fn ask(campaign: &Campaign, dev: u8, out: &mut DownFields) -> u8
+    ensures { Asks campaign.now dev out.old out.new result }
 {
-    if !server.has_device(dev) {
+    if !campaign.has_device(dev) {
         return RANGE;
     }
-    put_or(server.ask(dev), NOTHING, out)
+    put_or(campaign.server().ask(dev), NOTHING, out)
 }
 
 /// Takes an uplink of a device on a port, at `t` ms of GPS time, which moves its stage: done, with an answer to send; nothing,
@@ -243,13 +243,13 @@ pub extern "C" fn fuota_server_ledger(
     }
 }
 
-fn tell_stage(server: &Campaign, dev: u8, out: &mut StageFields) -> u8
-    ensures { TellsStage server.now dev out.old out.new result }
+fn tell_stage(campaign: &Campaign, dev: u8, out: &mut StageFields) -> u8
+    ensures { TellsStage campaign.now dev out.old out.new result }
 {
-    if !server.has_device(dev) {
+    if !campaign.has_device(dev) {
         return RANGE;
     }
-    *out = fields_of(server.ledger(dev));
+    *out = fields_of(campaign.server().ledger(dev));
     DONE
 }
 

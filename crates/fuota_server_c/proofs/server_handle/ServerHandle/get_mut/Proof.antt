@@ -1,5 +1,5 @@
 -- `get_mut` lends what the struct for C holds.
-use Rattle.c_base.proofs.Lends.{lends}
+use Rattle.c_base.proofs.Structs.{lends}
 use Rattle.fuota_server_c.proofs.Forms.{server_form}
 use Rattle.fuota_server_c.specs.contracts.server_handle.ServerHandle.get_mut.Key.{name as #self}
 use Rattle.fuota_server_c.proofs.server_handle.ServerHandle.get_mut.Statement.{statement}

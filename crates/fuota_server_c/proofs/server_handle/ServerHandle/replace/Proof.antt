@@ -1,5 +1,5 @@
 -- `replace` puts the parts of a handle into the struct for C.
-use Rattle.c_base.proofs.Swaps.{swaps}
+use Rattle.c_base.proofs.Structs.{swaps}
 use Rattle.fuota_server_c.proofs.Forms.{server_form}
 use Rattle.fuota_server_c.specs.contracts.server_handle.ServerHandle.replace.Key.{name as #self}
 use Rattle.fuota_server_c.proofs.server_handle.ServerHandle.replace.Statement.{statement}
