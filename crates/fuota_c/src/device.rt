@@ -14,7 +14,7 @@ use crate::shown::{ViewFields, file_in, show};
 use c_base::answer::{
     DEAF, DONE, DOWN, FLASH, FULL, NO_MEMORY, NO_OBJECT, NOTHING, RANGE, REFUSED,
 };
-use c_base::{copy_part, put_whole};
+use c_base::{Handle, copy_part, put_whole};
 use device_core::{Delivered, Device, DeviceConfig, OutboxFull, ReserveError, Uplink};
 use flash_session::CellFlash;
 use package_grammar::{Downlink, To};
@@ -70,7 +70,7 @@ pub fn put_new(handle: &mut DeviceHandle, alloc: Global, config: DeviceConfig, b
     fuota_device_free(handle, alloc);
     match boxed(alloc, config, bytes) {
         Ok(device) => {
-            *handle = DeviceHandle::of(device);
+            let _none = handle.replace(Handle::of(device)).into_box();
             DONE
         }
         Err(ReserveError::BadConfig) => RANGE,
@@ -106,7 +106,7 @@ pub extern "C" fn fuota_device_free(handle: &mut DeviceHandle, alloc: Global)
     ensures { handle.new.held ≡ None }
 {
     // It is dropped here, and its memory with it.
-    let _device = handle.take(alloc);
+    let _device = handle.replace(Handle::none(alloc)).into_box();
 }
 
 /// Brings a payload: done, where its commands acted; deaf, refused or full, where they did not; down where its sessions are;
@@ -122,13 +122,9 @@ pub extern "C" fn fuota_device_deliver(
     ensures { Does handle.old.held handle.new.held
         (λ x y. DeliversOrNot x y port payload.now arrival.now result) (result ≡ no_object) }
 {
-    match handle.take(alloc) {
+    match handle.get_mut() {
         None => NO_OBJECT,
-        Some(mut device) => {
-            let answer = deliver_or_not(&mut device, port, payload, arrival);
-            *handle = DeviceHandle::of(device);
-            answer
-        }
+        Some(device) => deliver_or_not(device, port, payload, arrival),
     }
 }
 
@@ -188,13 +184,9 @@ pub extern "C" fn fuota_device_wake(handle: &mut DeviceHandle, alloc: Global, t:
     ensures { Does handle.old.held handle.new.held (λ x y. WakesOrNot x y t result)
         (result ≡ no_object) }
 {
-    match handle.take(alloc) {
+    match handle.get_mut() {
         None => NO_OBJECT,
-        Some(mut device) => {
-            let answer = wake_or_not(&mut device, t);
-            *handle = DeviceHandle::of(device);
-            answer
-        }
+        Some(device) => wake_or_not(device, t),
     }
 }
 
@@ -220,13 +212,9 @@ pub extern "C" fn fuota_device_take_uplink(
     ensures { Does handle.old.held handle.new.held (λ x y. TakesUplink x y out.old out.new result)
         ((result ≡ no_object) × (out.new ≡ out.old)) }
 {
-    match handle.take(alloc) {
+    match handle.get_mut() {
         None => NO_OBJECT,
-        Some(mut device) => {
-            let answer = take_uplink(&mut device, out);
-            *handle = DeviceHandle::of(device);
-            answer
-        }
+        Some(device) => take_uplink(device, out),
     }
 }
 
@@ -263,13 +251,9 @@ pub extern "C" fn fuota_device_view(
     ensures view { Tells handle.old.held (λ x. IsSessionShown x index out.old out.new result)
         ((result ≡ no_object) × (out.new ≡ out.old)) }
 {
-    match handle.take(alloc) {
+    match handle.get_mut() {
         None => NO_OBJECT,
-        Some(device) => {
-            let answer = show_session(&device, index, out);
-            *handle = DeviceHandle::of(device);
-            answer
-        }
+        Some(device) => show_session(device, index, out),
     }
 }
 
@@ -297,13 +281,9 @@ pub extern "C" fn fuota_device_file(
         (λ x. IsSessionFile x index offset into.old into.new result)
         ((result ≡ 0) × (into.new ≡ into.old)) }
 {
-    match handle.take(alloc) {
+    match handle.get_mut() {
         None => 0,
-        Some(device) => {
-            let count = copy_session(&device, index, offset, into);
-            *handle = DeviceHandle::of(device);
-            count
-        }
+        Some(device) => copy_session(device, index, offset, into),
     }
 }
 
@@ -327,11 +307,10 @@ pub extern "C" fn fuota_device_running(
     ensures version { Tells handle.old.held (λ x. (result ≡ done) × (version.new ≡ x.slots.version))
         ((result ≡ no_object) × (version.new ≡ version.old)) }
 {
-    match handle.take(alloc) {
+    match handle.get_mut() {
         None => NO_OBJECT,
         Some(device) => {
-            *version = running(&device);
-            *handle = DeviceHandle::of(device);
+            *version = running(device);
             DONE
         }
     }

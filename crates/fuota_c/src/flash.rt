@@ -71,13 +71,9 @@ pub extern "C" fn fuota_device_power(handle: &mut DeviceHandle, alloc: Global) -
     ensures { Does handle.old.held handle.new.held (λ x y. PowersOrNot x y result)
         (result ≡ no_object) }
 {
-    match handle.take(alloc) {
+    match handle.get_mut() {
         None => NO_OBJECT,
-        Some(mut device) => {
-            let answer = power_or_not(&mut device);
-            *handle = DeviceHandle::of(device);
-            answer
-        }
+        Some(device) => power_or_not(device),
     }
 }
 
@@ -107,13 +103,9 @@ pub extern "C" fn fuota_device_flash(
         (λ x. Copied x.sessions.flash.bytes offset into.old into.new result)
         ((result ≡ 0) × (into.new ≡ into.old)) }
 {
-    match handle.take(alloc) {
+    match handle.get_mut() {
         None => 0,
-        Some(device) => {
-            let count = copy_flash(&device, offset, into);
-            *handle = DeviceHandle::of(device);
-            count
-        }
+        Some(device) => copy_flash(device, offset, into),
     }
 }
 

@@ -27,13 +27,9 @@ pub extern "C" fn fuota_device_radio(
     ensures { Does handle.old.held handle.new.held
         (λ x y. HearsFrameOrNot x y bytes.now t word mark result) (result ≡ no_object) }
 {
-    match handle.take(alloc) {
+    match handle.get_mut() {
         None => NO_OBJECT,
-        Some(mut device) => {
-            let answer = radio_or_not(&mut device, bytes, t, word, mark);
-            *handle = DeviceHandle::of(device);
-            answer
-        }
+        Some(device) => radio_or_not(device, bytes, t, word, mark),
     }
 }
 

@@ -13,7 +13,7 @@ use crate::receiver_handle::ReceiverHandle;
 use crate::shown::{ViewFields, file_in, show};
 use crate::sized_receiver::{Receiver, Size, hear, new_receiver, set_up, status, view};
 use c_base::answer::{DONE, NO_MEMORY, NO_OBJECT, NO_RECEIVER, RANGE};
-use c_base::{copy_part, put_whole};
+use c_base::{Handle, copy_part, put_whole};
 use cast_wire::{Cmd, FRAGMENT_PORT};
 use frag_session::SetupReq;
 use package_grammar::{Command, spelled};
@@ -48,7 +48,7 @@ pub extern "C" fn fuota_receiver_new(handle: &mut ReceiverHandle, alloc: Global,
     match made(alloc, size) {
         None => NO_MEMORY,
         Some(receiver) => {
-            *handle = ReceiverHandle::of(receiver);
+            let _none = handle.replace(Handle::of(receiver)).into_box();
             DONE
         }
     }
@@ -85,7 +85,7 @@ pub extern "C" fn fuota_receiver_free(handle: &mut ReceiverHandle, alloc: Global
     ensures { handle.new.held ≡ None }
 {
     // It is dropped here, and its memory with it.
-    let _receiver = handle.take(alloc);
+    let _receiver = handle.replace(Handle::none(alloc)).into_box();
 }
 
 /// Takes a FragSessionSetupReq and returns all refusal bits of its answer, 0 where it has a session; 255 where there is no
@@ -99,13 +99,9 @@ pub extern "C" fn fuota_receiver_set_up(
     ensures { Does handle.old.held handle.new.held
         (λ x y. SetsUp x y (setup_of setup.now) result) (result ≡ no_receiver) }
 {
-    match handle.take(alloc) {
+    match handle.get_mut() {
         None => NO_RECEIVER,
-        Some(mut receiver) => {
-            let bits = set_up(&mut receiver, request_of(setup));
-            *handle = ReceiverHandle::of(receiver);
-            bits
-        }
+        Some(receiver) => set_up(receiver, request_of(setup)),
     }
 }
 
@@ -135,13 +131,9 @@ pub extern "C" fn fuota_receiver_hear(
     ensures { Does handle.old.held handle.new.held
         (λ x y. HearsOrNot x y payload.now mark result) (result ≡ no_object) }
 {
-    match handle.take(alloc) {
+    match handle.get_mut() {
         None => NO_OBJECT,
-        Some(mut receiver) => {
-            let answer = hear_or_not(&mut receiver, payload, mark);
-            *handle = ReceiverHandle::of(receiver);
-            answer
-        }
+        Some(receiver) => hear_or_not(receiver, payload, mark),
     }
 }
 
@@ -168,13 +160,9 @@ pub extern "C" fn fuota_receiver_view(
         → IsShown (view_of s) out.old out.new result)
         ((result ≡ no_object) × (out.new ≡ out.old)) }
 {
-    match handle.take(alloc) {
+    match handle.get_mut() {
         None => NO_OBJECT,
-        Some(receiver) => {
-            let answer = show(view(&receiver), out);
-            *handle = ReceiverHandle::of(receiver);
-            answer
-        }
+        Some(receiver) => show(view(receiver), out),
     }
 }
 
@@ -192,13 +180,9 @@ pub extern "C" fn fuota_receiver_file(
         → IsFileCopy (view_of s) offset into.old into.new result)
         ((result ≡ 0) × (into.new ≡ into.old)) }
 {
-    match handle.take(alloc) {
+    match handle.get_mut() {
         None => 0,
-        Some(receiver) => {
-            let count = copy_part(file_in(view(&receiver)), offset, into);
-            *handle = ReceiverHandle::of(receiver);
-            count
-        }
+        Some(receiver) => copy_part(file_in(view(receiver)), offset, into),
     }
 }
 
@@ -217,13 +201,9 @@ pub extern "C" fn fuota_receiver_status(
         → IsStatus s all answer.old answer.new result)
         ((result ≡ 0) × (answer.new ≡ answer.old)) }
 {
-    match handle.take(alloc) {
+    match handle.get_mut() {
         None => 0,
-        Some(receiver) => {
-            let count = put_whole(status_bytes(&receiver, all).as_slice(), answer);
-            *handle = ReceiverHandle::of(receiver);
-            count
-        }
+        Some(receiver) => put_whole(status_bytes(receiver, all).as_slice(), answer),
     }
 }
 

@@ -11,7 +11,7 @@ use crate::config::{ConfigFields, config_of, fits};
 use crate::device::fuota_device_free;
 use crate::device_handle::DeviceHandle;
 use c_base::answer::{CORRUPT, DONE, NO_MEMORY, RANGE};
-use c_base::{copy_part, put_whole};
+use c_base::{Handle, copy_part, put_whole};
 use device_core::{Device, DeviceConfig, RestoreError};
 use flash_session::CellFlash;
 use std::alloc::Global;
@@ -28,13 +28,9 @@ pub extern "C" fn fuota_device_save(
     ensures saved { Tells handle.old.held (λ x. SavesTo x into.old into.new result)
         ((result ≡ 0) × (into.new ≡ into.old)) }
 {
-    match handle.take(alloc) {
+    match handle.get_mut() {
         None => 0,
-        Some(device) => {
-            let count = save(&device, into);
-            *handle = DeviceHandle::of(device);
-            count
-        }
+        Some(device) => save(device, into),
     }
 }
 
@@ -59,13 +55,9 @@ pub extern "C" fn fuota_device_firmware(
         (λ x. Copied (slot_file x is_next) offset into.old into.new result)
         ((result ≡ 0) × (into.new ≡ into.old)) }
 {
-    match handle.take(alloc) {
+    match handle.get_mut() {
         None => 0,
-        Some(device) => {
-            let count = copy_part(slot_file(&device, is_next), offset, into);
-            *handle = DeviceHandle::of(device);
-            count
-        }
+        Some(device) => copy_part(slot_file(device, is_next), offset, into),
     }
 }
 
@@ -112,7 +104,7 @@ pub fn put_back(
     fuota_device_free(handle, alloc);
     match boxed(alloc, config, flash, saved, running, next) {
         Ok(device) => {
-            *handle = DeviceHandle::of(device);
+            let _none = handle.replace(Handle::of(device)).into_box();
             DONE
         }
         Err(RestoreError::BadConfig) => RANGE,

@@ -43,11 +43,10 @@ pub extern "C" fn fuota_device_counts(
     ensures counts { Tells handle.old.held (λ x. (result ≡ done) × (out.new ≡ counts_of x.counts))
         ((result ≡ no_object) × (out.new ≡ out.old)) }
 {
-    match handle.take(alloc) {
+    match handle.get_mut() {
         None => NO_OBJECT,
         Some(device) => {
             *out = counts_of(device.counts());
-            *handle = DeviceHandle::of(device);
             DONE
         }
     }
@@ -75,11 +74,10 @@ pub extern "C" fn fuota_device_next(
     ensures next { Tells handle.old.held (λ x. (result ≡ done) × (out.new ≡ next_of x.slots.next))
         ((result ≡ no_object) × (out.new ≡ out.old)) }
 {
-    match handle.take(alloc) {
+    match handle.get_mut() {
         None => NO_OBJECT,
         Some(device) => {
-            *out = next_of(next_state(&device));
-            *handle = DeviceHandle::of(device);
+            *out = next_of(next_state(device));
             DONE
         }
     }
@@ -126,11 +124,10 @@ pub extern "C" fn fuota_device_raise(handle: &mut DeviceHandle, alloc: Global) -
     ensures { Does handle.old.held handle.new.held
         (λ x y. (result ≡ done) × Becomes x y after_migration) (result ≡ no_object) }
 {
-    match handle.take(alloc) {
+    match handle.get_mut() {
         None => NO_OBJECT,
-        Some(mut device) => {
+        Some(device) => {
             device.raise();
-            *handle = DeviceHandle::of(device);
             DONE
         }
     }
