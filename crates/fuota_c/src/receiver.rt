@@ -1,8 +1,7 @@
 //! A receiver of one file at a time.
 
-ghost use Rattle.std.specs.Prelude.{◌≡◌, ◌<◌, ◌≤◌, None, IfSome, IsNone, IfOk, Option, option_map};
+ghost use Rattle.std.specs.Prelude.{◌≡◌, ◌<◌, None, IfSome, IsNone, Option};
 ghost use Rattle.frag_session.specs.Session.{Session, view_of, status_of};
-ghost use Rattle.frag_session.specs.HeldView.{seen};
 ghost use Rattle.frag_session.specs.declared.answers.Via.TheVariants.{Unicast};
 ghost use Rattle.c_base.specs.Answer.{no_object, no_receiver};
 ghost use Rattle.c_base.specs.Calls.{Does, Tells};

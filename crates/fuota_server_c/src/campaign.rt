@@ -1,9 +1,6 @@
 //! A server that knows how many devices its plan has.
 
-use campaign_server::{
-    LastStatus, Plan, RestoreError, SavedServer, Server, ServerError, Spent, Stage,
-};
-use mc_frames::Frame;
+use campaign_server::{Plan, RestoreError, Server, ServerError, Spent};
 use package_grammar::Downlink;
 use std::alloc::Global;
 use std::marker::Model;
@@ -28,15 +25,11 @@ impl Model for Campaign {
 }
 
 impl Campaign {
-    ghost use Rattle.std.specs.Prelude.{◌≡◌, Some, true};
+    ghost use Rattle.std.specs.Prelude.{◌≡◌, true};
     ghost use Rattle.image_slots.specs.Image.{is_image};
-    ghost use Rattle.campaign_server.specs.Server.{ledger, last_status};
-    ghost use Rattle.campaign_server.specs.Asking.{request_of};
-    ghost use Rattle.campaign_server.specs.Framing.{has_frame, frame_for};
     ghost use Rattle.campaign_server.specs.Uplinks.{uplink_step};
     ghost use Rattle.campaign_server.specs.Fragments.{next_fragment, after_fragment, status_to_all, after_status_to_all};
     ghost use Rattle.campaign_server.specs.Sent.{down_of, result_of, answer_of};
-    ghost use Rattle.campaign_server.specs.Saving.{saved_of};
     ghost use Rattle.fuota_server_c.specs.Plan.{IsMade};
     ghost use Rattle.fuota_server_c.specs.Saving.{IsRestored};
     ghost use Rattle.fuota_server_c.specs.Sent.{has_device};

@@ -17,7 +17,7 @@ use c_base::answer::{CORRUPT, DONE, NO_MEMORY, RANGE, REFUSED};
 use c_base::{Handle, put_whole};
 use campaign_server::RestoreError;
 use image_slots::is_image;
-use std::alloc::{AllocError, Global};
+use std::alloc::Global;
 
 /// Copies what the server knows, as bytes for `fuota_server_restore`, to the front of `into`: 44 bytes and six for each device;
 /// returns their count, and 0 where they have no room, or without a server.
@@ -81,15 +81,9 @@ fn boxed(
     ensures { IsRestored image.now (plan_of fields.now devices.now) saved.now
         (result_map_both (λ b. b.value) (λ e. e) result) }
 {
-    let plan = match plan_of(alloc, fields, devices) {
-        Ok(plan) => plan,
-        Err(AllocError) => return Err(RestoreError::Memory),
+    let Ok(plan) = plan_of(alloc, fields, devices) else {
+        return Err(RestoreError::Memory);
     };
-    match Campaign::restore(alloc, plan, image, saved) {
-        Err(error) => Err(error),
-        Ok(server) => match Box::new(alloc, server) {
-            Err(_) => Err(RestoreError::Memory),
-            Ok(server) => Ok(server),
-        },
-    }
+    let campaign = Campaign::restore(alloc, plan, image, saved)?;
+    Box::new(alloc, campaign).map_err(|_| RestoreError::Memory)
 }

@@ -18,7 +18,7 @@ use c_base::answer::{DONE, NO_MEMORY, NO_OBJECT, NOTHING, RANGE, REFUSED, SPENT}
 use campaign_server::{Request, ServerError, Spent, Stage};
 use image_slots::is_image;
 use package_grammar::Downlink;
-use std::alloc::{AllocError, Global};
+use std::alloc::Global;
 use wire_base::MAX_PAYLOAD;
 
 /// The stage of a device: 0 at a request, 1 updated, 2 refused; the number of the request, and 0 at updated; the bits of the
@@ -73,17 +73,9 @@ fn boxed(
     ensures { IsMade image.now (plan_of fields.now devices.now)
         (result_map_both (λ b. b.value) (λ e. e) result) }
 {
-    let plan = match plan_of(alloc, fields, devices) {
-        Ok(plan) => plan,
-        Err(AllocError) => return Err(ServerError::Memory),
-    };
-    match Campaign::new(alloc, plan, image) {
-        Err(error) => Err(error),
-        Ok(server) => match Box::new(alloc, server) {
-            Err(_) => Err(ServerError::Memory),
-            Ok(server) => Ok(server),
-        },
-    }
+    let plan = plan_of(alloc, fields, devices)?;
+    let campaign = Campaign::new(alloc, plan, image)?;
+    Box::new(alloc, campaign).map_err(|_| ServerError::Memory)
 }
 
 /// Frees the server, where there is one; the handle has none afterwards.
