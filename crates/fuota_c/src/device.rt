@@ -1,12 +1,11 @@
 //! A device of all four packages.
 
 ghost use Rattle.std.specs.Prelude.{◌≡◌, ◌≤◌, None, [], length};
-ghost use Rattle.core.specs.Result.{result_map_both};
 ghost use Rattle.wire_base.specs.Payload.{max_payload};
 ghost use Rattle.c_base.specs.Answer.{done, no_object};
 ghost use Rattle.c_base.specs.Calls.{Does, Tells};
 ghost use Rattle.fuota_c.specs.Config.{config_of};
-ghost use Rattle.fuota_c.specs.Device.{IsNewDevice, IsMade, DeliversOrNot, WakesOrNot, TakesUplink, IsUplinkOut, IsSessionShown, IsSessionFile, downlink_of, delivered_number};
+ghost use Rattle.fuota_c.specs.Device.{IsNewDevice, DeliversOrNot, WakesOrNot, TakesUplink, IsUplinkOut, IsSessionShown, IsSessionFile, downlink_of, delivered_number};
 
 use crate::config::{ConfigFields, config_of, fits};
 use crate::device_handle::DeviceHandle;
@@ -68,36 +67,22 @@ pub fn put_new(handle: &mut DeviceHandle, alloc: Global, config: DeviceConfig, b
     ensures { IsNewDevice config bytes.now handle.new.held result }
 {
     fuota_device_free(handle, alloc);
-    match boxed(alloc, config, bytes) {
-        Ok(device) => {
-            let _none = handle.replace(Handle::of(device)).into_box();
-            DONE
-        }
-        Err(ReserveError::BadConfig) => RANGE,
-        Err(ReserveError::Memory) => NO_MEMORY,
-    }
-}
-
-fn boxed(
-    alloc: Global,
-    config: DeviceConfig,
-    bytes: &[u8],
-) -> Result<Box<Device<CellFlash>>, ReserveError>
-    ensures { IsMade config bytes.now (result_map_both (λ b. b.value) (λ e. e) result) }
-{
     if !fits(&config, bytes) {
-        return Err(ReserveError::BadConfig);
+        return RANGE;
     }
     let Ok(flash) = CellFlash::of_bytes(alloc, bytes) else {
-        return Err(ReserveError::Memory);
+        return NO_MEMORY;
     };
-    match Device::reserve(alloc, config, flash) {
-        Err(error) => Err(error),
-        Ok(device) => match Box::new(alloc, device) {
-            Err(_) => Err(ReserveError::Memory),
-            Ok(device) => Ok(device),
-        },
-    }
+    let device = match Device::reserve(alloc, config, flash) {
+        Ok(device) => device,
+        Err(ReserveError::BadConfig) => return RANGE,
+        Err(ReserveError::Memory) => return NO_MEMORY,
+    };
+    let Ok(device) = Box::new(alloc, device) else {
+        return NO_MEMORY;
+    };
+    let _none = handle.replace(Handle::of(device)).into_box();
+    DONE
 }
 
 /// Frees the device, if there is one; the handle has none afterwards.

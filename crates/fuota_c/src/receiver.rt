@@ -44,13 +44,14 @@ pub extern "C" fn fuota_receiver_new(handle: &mut ReceiverHandle, alloc: Global,
     let Some(size) = size_of(size) else {
         return RANGE;
     };
-    match made(alloc, size) {
-        None => NO_MEMORY,
-        Some(receiver) => {
-            let _none = handle.replace(Handle::of(receiver)).into_box();
-            DONE
-        }
-    }
+    let Ok(receiver) = new_receiver(alloc, size) else {
+        return NO_MEMORY;
+    };
+    let Ok(receiver) = Box::new(alloc, receiver) else {
+        return NO_MEMORY;
+    };
+    let _none = handle.replace(Handle::of(receiver)).into_box();
+    DONE
 }
 
 /// The size with a number.
@@ -63,18 +64,6 @@ fn size_of(number: u8) -> Option<Size>
         1 => Some(Size::Middle),
         2 => Some(Size::Large),
         _ => None,
-    }
-}
-
-fn made(alloc: Global, size: Size) -> Option<Box<Receiver>>
-    ensures { IfSome result (λ b. ReceiverStands size b.value None) }
-{
-    match new_receiver(alloc, size) {
-        Err(_) => None,
-        Ok(receiver) => match Box::new(alloc, receiver) {
-            Err(_) => None,
-            Ok(receiver) => Some(receiver),
-        },
     }
 }
 

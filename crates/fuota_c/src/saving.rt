@@ -1,11 +1,10 @@
 //! A device outlasts its process: what it saves, the files of its slots, and the device that is restored from both.
 
 ghost use Rattle.std.specs.Prelude.{◌≡◌, []};
-ghost use Rattle.core.specs.Result.{result_map_both};
 ghost use Rattle.c_base.specs.Bytes.{Copied};
 ghost use Rattle.c_base.specs.Calls.{Tells};
 ghost use Rattle.fuota_c.specs.Config.{config_of};
-ghost use Rattle.fuota_c.specs.Saving.{IsDeviceBack, IsRestored, SavesTo, slot_file};
+ghost use Rattle.fuota_c.specs.Saving.{IsDeviceBack, SavesTo, slot_file};
 
 use crate::config::{ConfigFields, config_of, fits};
 use crate::device::fuota_device_free;
@@ -102,52 +101,21 @@ pub fn put_back(
     ensures { IsDeviceBack config flash.now saved.now running.now next.now handle.new.held result }
 {
     fuota_device_free(handle, alloc);
-    match boxed(alloc, config, flash, saved, running, next) {
-        Ok(device) => {
-            let _none = handle.replace(Handle::of(device)).into_box();
-            DONE
-        }
-        Err(RestoreError::BadConfig) => RANGE,
-        Err(RestoreError::Corrupt) => CORRUPT,
-        Err(RestoreError::Memory) => NO_MEMORY,
-    }
-}
-
-fn boxed(
-    alloc: Global,
-    config: DeviceConfig,
-    flash: &[u8],
-    saved: &[u8],
-    running: &[u8],
-    next: &[u8],
-) -> Result<Box<Device<CellFlash>>, RestoreError>
-    ensures { IsRestored config flash.now saved.now running.now next.now
-        (result_map_both (λ b. b.value) (λ e. e) result) }
-{
-    match restored(alloc, config, flash, saved, running, next) {
-        Err(error) => Err(error),
-        Ok(device) => match Box::new(alloc, device) {
-            Err(_) => Err(RestoreError::Memory),
-            Ok(device) => Ok(device),
-        },
-    }
-}
-
-fn restored(
-    alloc: Global,
-    config: DeviceConfig,
-    flash: &[u8],
-    saved: &[u8],
-    running: &[u8],
-    next: &[u8],
-) -> Result<Device<CellFlash>, RestoreError>
-    ensures { IsRestored config flash.now saved.now running.now next.now result }
-{
     if !fits(&config, flash) {
-        return Err(RestoreError::BadConfig);
+        return RANGE;
     }
     let Ok(cells) = CellFlash::of_bytes(alloc, flash) else {
-        return Err(RestoreError::Memory);
+        return NO_MEMORY;
     };
-    Device::restore(alloc, config, cells, saved, running, next)
+    let device = match Device::restore(alloc, config, cells, saved, running, next) {
+        Ok(device) => device,
+        Err(RestoreError::BadConfig) => return RANGE,
+        Err(RestoreError::Corrupt) => return CORRUPT,
+        Err(RestoreError::Memory) => return NO_MEMORY,
+    };
+    let Ok(device) = Box::new(alloc, device) else {
+        return NO_MEMORY;
+    };
+    let _none = handle.replace(Handle::of(device)).into_box();
+    DONE
 }

@@ -1,13 +1,11 @@
 //! A server outlasts its process: what it saves, and the server that is restored from it.
 
-ghost use Rattle.std.specs.Prelude.{◌≡◌, true};
-ghost use Rattle.core.specs.Result.{result_map_both};
-ghost use Rattle.image_slots.specs.Image.{is_image};
+ghost use Rattle.std.specs.Prelude.{◌≡◌};
 ghost use Rattle.campaign_server.specs.Saving.{saved_of};
 ghost use Rattle.c_base.specs.Bytes.{Whole};
 ghost use Rattle.c_base.specs.Calls.{Tells};
 ghost use Rattle.fuota_server_c.specs.Plan.{plan_of};
-ghost use Rattle.fuota_server_c.specs.Saving.{IsRestored, IsServerBack};
+ghost use Rattle.fuota_server_c.specs.Saving.{IsServerBack};
 
 use crate::campaign::Campaign;
 use crate::plan::{PlanDeviceFields, PlanFields, field_number, plan_of};
@@ -56,34 +54,21 @@ pub extern "C" fn fuota_server_restore(
     if !is_image(image) {
         return REFUSED;
     }
-    match boxed(alloc, plan, devices, image, saved) {
-        Ok(server) => {
-            let _none = handle.replace(Handle::of(server)).into_box();
-            DONE
-        }
+    let Ok(plan) = plan_of(alloc, plan, devices) else {
+        return NO_MEMORY;
+    };
+    let campaign = match Campaign::restore(alloc, plan, image, saved) {
+        Ok(campaign) => campaign,
         Err(RestoreError::BadPlan(wrong)) => {
             *field = field_number(wrong);
-            RANGE
+            return RANGE;
         }
-        Err(RestoreError::Corrupt) => CORRUPT,
-        Err(RestoreError::Memory) => NO_MEMORY,
-    }
-}
-
-fn boxed(
-    alloc: Global,
-    fields: &PlanFields,
-    devices: &[PlanDeviceFields],
-    image: &[u8],
-    saved: &[u8],
-) -> Result<Box<Campaign>, RestoreError>
-    requires { is_image image.now ≡ true }
-    ensures { IsRestored image.now (plan_of fields.now devices.now) saved.now
-        (result_map_both (λ b. b.value) (λ e. e) result) }
-{
-    let Ok(plan) = plan_of(alloc, fields, devices) else {
-        return Err(RestoreError::Memory);
+        Err(RestoreError::Corrupt) => return CORRUPT,
+        Err(RestoreError::Memory) => return NO_MEMORY,
     };
-    let campaign = Campaign::restore(alloc, plan, image, saved)?;
-    Box::new(alloc, campaign).map_err(|_| RestoreError::Memory)
+    let Ok(campaign) = Box::new(alloc, campaign) else {
+        return NO_MEMORY;
+    };
+    let _none = handle.replace(Handle::of(campaign)).into_box();
+    DONE
 }

@@ -1,12 +1,10 @@
 //! The calls of a server.
 
-ghost use Rattle.std.specs.Prelude.{◌≡◌, None, true};
-ghost use Rattle.core.specs.Result.{result_map_both};
-ghost use Rattle.image_slots.specs.Image.{is_image};
+ghost use Rattle.std.specs.Prelude.{◌≡◌, None};
 ghost use Rattle.campaign_server.specs.Uplinks.{uplink_step};
 ghost use Rattle.c_base.specs.Answer.{no_object};
 ghost use Rattle.c_base.specs.Calls.{Does, Tells};
-ghost use Rattle.fuota_server_c.specs.Plan.{IsMade, IsNewServer, plan_of};
+ghost use Rattle.fuota_server_c.specs.Plan.{IsNewServer, plan_of};
 ghost use Rattle.fuota_server_c.specs.Sent.{SendsFragment, SendsStatus, Asks, TakesUplink, TellsStage, IsOut, fields_of, request_number};
 
 use crate::campaign::Campaign;
@@ -50,32 +48,22 @@ pub extern "C" fn fuota_server_new(
     if !is_image(image) {
         return REFUSED;
     }
-    match boxed(alloc, plan, devices, image) {
-        Ok(server) => {
-            let _none = handle.replace(Handle::of(server)).into_box();
-            DONE
-        }
+    let Ok(plan) = plan_of(alloc, plan, devices) else {
+        return NO_MEMORY;
+    };
+    let campaign = match Campaign::new(alloc, plan, image) {
+        Ok(campaign) => campaign,
         Err(ServerError::BadPlan(wrong)) => {
             *field = field_number(wrong);
-            RANGE
+            return RANGE;
         }
-        Err(ServerError::Memory) => NO_MEMORY,
-    }
-}
-
-fn boxed(
-    alloc: Global,
-    fields: &PlanFields,
-    devices: &[PlanDeviceFields],
-    image: &[u8],
-) -> Result<Box<Campaign>, ServerError>
-    requires { is_image image.now ≡ true }
-    ensures { IsMade image.now (plan_of fields.now devices.now)
-        (result_map_both (λ b. b.value) (λ e. e) result) }
-{
-    let plan = plan_of(alloc, fields, devices)?;
-    let campaign = Campaign::new(alloc, plan, image)?;
-    Box::new(alloc, campaign).map_err(|_| ServerError::Memory)
+        Err(ServerError::Memory) => return NO_MEMORY,
+    };
+    let Ok(campaign) = Box::new(alloc, campaign) else {
+        return NO_MEMORY;
+    };
+    let _none = handle.replace(Handle::of(campaign)).into_box();
+    DONE
 }
 
 /// Frees the server, where there is one; the handle has none afterwards.
