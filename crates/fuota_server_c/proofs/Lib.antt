@@ -1,3 +1,3 @@
 pub mod Forms
 pub mod Plans
-pub mod Restored
+pub mod NoServer

@@ -1,11 +1,9 @@
 -- No call of a server changes its plan.
-use Rattle.std.proofs.Common.{◌≡◌, ℕ, Bool, true, false, List, Option, Some, None, Ok, Err, is_some, is_ok, refl, sym, ap, ◌∙◌}
-use Rattle.std.specs.Prelude.{length}
+use Rattle.std.proofs.Common.{◌≡◌, ℕ, Bool, true, false, List, Option, Some, None, Ok, Err, is_some, is_ok, refl}
 use Rattle.wire_base.specs.declared.refusal.Direction.TheVariants.{Up}
 use Rattle.package_grammar.specs.declared.command.Command.{Command}
 use Rattle.package_grammar.specs.Reading.{Reading, reading_of}
 use Rattle.campaign_server.specs.declared.stage.Stage.{Stage}
-use Rattle.campaign_server.specs.Plan.{Plan}
 use Rattle.campaign_server.specs.Server.{ServerState, ledger}
 use Rattle.campaign_server.specs.Fragments.{next_fragment, after_fragment, status_to_all, after_status_to_all}
 use Rattle.campaign_server.specs.Uplinks.{with_answers, read_uplink, uplink_step}
@@ -40,7 +38,3 @@ pub behind_uplink : (s : ServerState) (dev port : ℕ) (payload : List ℕ) (t :
     → (uplink_step s dev port payload t).server.plan ≡ s.plan
 unfolding uplink_step
 behind_uplink s dev port payload t = read_plan s dev t (reading_of port Up payload)
-
--- so a count of its devices stays true
-pub counted : (old new : Plan) (n : ℕ) → new ≡ old → n ≡ length old.devices → n ≡ length new.devices
-counted old new n plan is = is ∙ ap (λ (p : Plan). length p.devices) (sym plan)

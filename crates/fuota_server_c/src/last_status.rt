@@ -35,7 +35,7 @@ pub extern "C" fn fuota_server_last_status(
 {
     match handle.get_mut() {
         None => NO_OBJECT,
-        Some(server) => tell_status(server, dev, out),
+        Some(campaign) => tell_status(campaign, dev, out),
     }
 }
 

@@ -13,7 +13,7 @@ use crate::server::fuota_server_free;
 use crate::server_handle::ServerHandle;
 use c_base::answer::{CORRUPT, DONE, NO_MEMORY, RANGE, REFUSED};
 use c_base::{Handle, put_whole};
-use campaign_server::RestoreError;
+use campaign_server::{RestoreError, Server};
 use image_slots::is_image;
 use std::alloc::Global;
 
@@ -57,8 +57,9 @@ pub extern "C" fn fuota_server_restore(
     let Ok(plan) = plan_of(alloc, plan, devices) else {
         return NO_MEMORY;
     };
-    let campaign = match Campaign::restore(alloc, plan, image, saved) {
-        Ok(campaign) => campaign,
+    let count = plan.devices.len();
+    let server = match Server::restore(alloc, plan, image, saved) {
+        Ok(server) => server,
         Err(RestoreError::BadPlan(wrong)) => {
             *field = field_number(wrong);
             return RANGE;
@@ -66,7 +67,7 @@ pub extern "C" fn fuota_server_restore(
         Err(RestoreError::Corrupt) => return CORRUPT,
         Err(RestoreError::Memory) => return NO_MEMORY,
     };
-    let Ok(campaign) = Box::new(alloc, campaign) else {
+    let Ok(campaign) = Box::new(alloc, Campaign::of(server, count)) else {
         return NO_MEMORY;
     };
     let _none = handle.replace(Handle::of(campaign)).into_box();

@@ -5,19 +5,17 @@ ghost use Rattle.campaign_server.specs.Uplinks.{uplink_step};
 ghost use Rattle.c_base.specs.Answer.{no_object};
 ghost use Rattle.c_base.specs.Calls.{Does, Tells};
 ghost use Rattle.fuota_server_c.specs.Plan.{IsNewServer, plan_of};
-ghost use Rattle.fuota_server_c.specs.Sent.{SendsFragment, SendsStatus, Asks, TakesUplink, TellsStage, IsOut, fields_of, request_number};
+ghost use Rattle.fuota_server_c.specs.Sent.{SendsFragment, SendsStatus, Asks, TakesUplink, TellsStage, fields_of, request_number};
 
 use crate::campaign::Campaign;
 use crate::plan::{PlanDeviceFields, PlanFields, field_number, plan_of};
-use crate::sent::{DownFields, put_down};
+use crate::sent::{DownFields, put_or};
 use crate::server_handle::ServerHandle;
 use c_base::Handle;
-use c_base::answer::{DONE, NO_MEMORY, NO_OBJECT, NOTHING, RANGE, REFUSED, SPENT};
-use campaign_server::{Request, ServerError, Spent, Stage};
+use c_base::answer::{DONE, NO_MEMORY, NO_OBJECT, NOTHING, RANGE, REFUSED};
+use campaign_server::{Request, Server, ServerError, Stage};
 use image_slots::is_image;
-use package_grammar::Downlink;
 use std::alloc::Global;
-use wire_base::MAX_PAYLOAD;
 
 /// The stage of a device: 0 at a request, 1 updated, 2 refused; the number of the request, and 0 at updated; the bits of the
 /// answer that refused, and else 0. Requests are 1 version, 2 group, 3 fragments, 4 window, 5 status, 6 image, 7 reboot, 8 check.
@@ -51,15 +49,16 @@ pub extern "C" fn fuota_server_new(
     let Ok(plan) = plan_of(alloc, plan, devices) else {
         return NO_MEMORY;
     };
-    let campaign = match Campaign::new(alloc, plan, image) {
-        Ok(campaign) => campaign,
+    let count = plan.devices.len();
+    let server = match Server::new(alloc, plan, image) {
+        Ok(server) => server,
         Err(ServerError::BadPlan(wrong)) => {
             *field = field_number(wrong);
             return RANGE;
         }
         Err(ServerError::Memory) => return NO_MEMORY,
     };
-    let Ok(campaign) = Box::new(alloc, campaign) else {
+    let Ok(campaign) = Box::new(alloc, Campaign::of(server, count)) else {
         return NO_MEMORY;
     };
     let _none = handle.replace(Handle::of(campaign)).into_box();
@@ -87,20 +86,7 @@ pub extern "C" fn fuota_server_next_fragment(
 {
     match handle.get_mut() {
         None => NO_OBJECT,
-        Some(server) => next_fragment(server, out),
-    }
-}
-
-fn next_fragment(server: &mut Campaign, out: &mut DownFields) -> u8
-    ensures { SendsFragment server.old server.new out.old out.new result }
-{
-    match server.next_fragment() {
-        Ok(down) => {
-            put_down(&down, out);
-            DONE
-        }
-        Err(Spent::Fragments) => NOTHING,
-        Err(Spent::Counts) => SPENT,
+        Some(campaign) => campaign.next_fragment(out),
     }
 }
 
@@ -117,19 +103,7 @@ pub extern "C" fn fuota_server_status_all(
 {
     match handle.get_mut() {
         None => NO_OBJECT,
-        Some(server) => put_or(server.status_all(), SPENT, out),
-    }
-}
-
-fn put_or(down: Option<Downlink>, none: u8, out: &mut DownFields) -> u8
-    ensures { IsOut down none out.old out.new result }
-{
-    match down {
-        None => none,
-        Some(down) => {
-            put_down(&down, out);
-            DONE
-        }
+        Some(campaign) => campaign.status_all(out),
     }
 }
 
@@ -148,7 +122,7 @@ pub extern "C" fn fuota_server_ask(
 {
     match handle.get_mut() {
         None => NO_OBJECT,
-        Some(server) => ask(server, dev, out),
+        Some(campaign) => ask(campaign, dev, out),
     }
 }
 
@@ -181,27 +155,7 @@ pub extern "C" fn fuota_server_uplink(
 {
     match handle.get_mut() {
         None => NO_OBJECT,
-        Some(server) => uplink(server, dev, port, payload, t, out),
-    }
-}
-
-fn uplink(
-    server: &mut Campaign,
-    dev: u8,
-    port: u8,
-    payload: &[u8],
-    t: u64,
-    out: &mut DownFields,
-) -> u8
-    ensures { TakesUplink server.old server.new dev payload.now
-        (uplink_step server.old dev port payload.now t) out.old out.new result }
-{
-    if !server.has_device(dev) || payload.len() > MAX_PAYLOAD {
-        return RANGE;
-    }
-    match server.uplink(dev, port, payload, t) {
-        Ok(answer) => put_or(answer, NOTHING, out),
-        Err(_) => REFUSED,
+        Some(campaign) => campaign.uplink(dev, port, payload, t, out),
     }
 }
 
@@ -219,7 +173,7 @@ pub extern "C" fn fuota_server_ledger(
 {
     match handle.get_mut() {
         None => NO_OBJECT,
-        Some(server) => tell_stage(server, dev, out),
+        Some(campaign) => tell_stage(campaign, dev, out),
     }
 }
 
