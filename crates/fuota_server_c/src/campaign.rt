@@ -52,7 +52,7 @@ impl Campaign {
     }
 
     /// Writes the next fragment to all devices.
-    #[tactic(auto, using(crate::proofs::Plans::behind_fragment))]
+    #[tactic(auto, unfolding(campaign_server::specs::Fragments::after_fragment))]
     pub fn next_fragment(&mut self, out: &mut DownFields) -> u8
         ensures { SendsFragment self.old self.new out.old out.new result }
     {
@@ -67,7 +67,7 @@ impl Campaign {
     }
 
     /// Writes a FragSessionStatusReq to all devices.
-    #[tactic(auto, using(crate::proofs::Plans::behind_status))]
+    #[tactic(auto, unfolding(campaign_server::specs::Fragments::after_status_to_all))]
     pub fn status_all(&mut self, out: &mut DownFields) -> u8
         ensures { SendsStatus self.old self.new out.old out.new result }
     {
@@ -75,7 +75,7 @@ impl Campaign {
     }
 
     /// Takes an uplink of a device on a port, at `t` ms of GPS time, and writes the answer that is due.
-    #[tactic(auto, using(crate::proofs::Plans::behind_uplink))]
+    #[tactic(auto, unfolding(campaign_server::specs::Uplinks::uplink_step, campaign_server::specs::Uplinks::read_uplink))]
     pub fn uplink(&mut self, dev: u8, port: u8, payload: &[u8], t: u64, out: &mut DownFields) -> u8
         ensures { TakesUplink self.old self.new dev payload.now
             (uplink_step self.old dev port payload.now t) out.old out.new result }
