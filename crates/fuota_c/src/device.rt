@@ -107,20 +107,9 @@ pub extern "C" fn fuota_device_deliver(
     ensures { Does handle.old.held handle.new.held
         (λ x y. DeliversOrNot x y port payload.now arrival.now result) (result ≡ no_object) }
 {
-    match handle.get_mut() {
-        None => NO_OBJECT,
-        Some(device) => deliver_or_not(device, port, payload, arrival),
-    }
-}
-
-fn deliver_or_not(
-    device: &mut Device<CellFlash>,
-    port: u8,
-    payload: &[u8],
-    arrival: &ArrivalFields,
-) -> u8
-    ensures { DeliversOrNot device.old device.new port payload.now arrival.now result }
-{
+    let Some(device) = handle.get_mut() else {
+        return NO_OBJECT;
+    };
     if payload.len() > MAX_PAYLOAD || arrival.t > MAX_MOMENT {
         return RANGE;
     }
@@ -169,15 +158,9 @@ pub extern "C" fn fuota_device_wake(handle: &mut DeviceHandle, alloc: Global, t:
     ensures { Does handle.old.held handle.new.held (λ x y. WakesOrNot x y t result)
         (result ≡ no_object) }
 {
-    match handle.get_mut() {
-        None => NO_OBJECT,
-        Some(device) => wake_or_not(device, t),
-    }
-}
-
-fn wake_or_not(device: &mut Device<CellFlash>, t: u64) -> u8
-    ensures { WakesOrNot device.old device.new t result }
-{
+    let Some(device) = handle.get_mut() else {
+        return NO_OBJECT;
+    };
     if t > MAX_MOMENT {
         return RANGE;
     }
@@ -197,15 +180,9 @@ pub extern "C" fn fuota_device_take_uplink(
     ensures { Does handle.old.held handle.new.held (λ x y. TakesUplink x y out.old out.new result)
         ((result ≡ no_object) × (out.new ≡ out.old)) }
 {
-    match handle.get_mut() {
-        None => NO_OBJECT,
-        Some(device) => take_uplink(device, out),
-    }
-}
-
-fn take_uplink(device: &mut Device<CellFlash>, out: &mut UplinkFields) -> u8
-    ensures { TakesUplink device.old device.new out.old out.new result }
-{
+    let Some(device) = handle.get_mut() else {
+        return NO_OBJECT;
+    };
     match device.take_uplink() {
         None => NOTHING,
         Some(uplink) => {
@@ -236,15 +213,9 @@ pub extern "C" fn fuota_device_view(
     ensures view { Tells handle.old.held (λ x. IsSessionShown x index out.old out.new result)
         ((result ≡ no_object) × (out.new ≡ out.old)) }
 {
-    match handle.get_mut() {
-        None => NO_OBJECT,
-        Some(device) => show_session(device, index, out),
-    }
-}
-
-fn show_session(device: &Device<CellFlash>, index: u8, out: &mut ViewFields) -> u8
-    ensures { IsSessionShown device.now index out.old out.new result }
-{
+    let Some(device) = handle.get_mut() else {
+        return NO_OBJECT;
+    };
     if index >= SESSIONS {
         return RANGE;
     }
@@ -266,15 +237,9 @@ pub extern "C" fn fuota_device_file(
         (λ x. IsSessionFile x index offset into.old into.new result)
         ((result ≡ 0) × (into.new ≡ into.old)) }
 {
-    match handle.get_mut() {
-        None => 0,
-        Some(device) => copy_session(device, index, offset, into),
-    }
-}
-
-fn copy_session(device: &Device<CellFlash>, index: u8, offset: usize, into: &mut [u8]) -> usize
-    ensures { IsSessionFile device.now index offset into.old into.new result }
-{
+    let Some(device) = handle.get_mut() else {
+        return 0;
+    };
     if index >= SESSIONS {
         return 0;
     }
@@ -295,15 +260,8 @@ pub extern "C" fn fuota_device_running(
     match handle.get_mut() {
         None => NO_OBJECT,
         Some(device) => {
-            *version = running(device);
+            *version = device.slots().running().0;
             DONE
         }
     }
-}
-
-fn running(device: &Device<CellFlash>) -> u32
-    ensures { result ≡ device.now.slots.version }
-{
-    let (version, _file) = device.slots().running();
-    version
 }

@@ -119,15 +119,9 @@ pub extern "C" fn fuota_receiver_hear(
     ensures { Does handle.old.held handle.new.held
         (λ x y. HearsOrNot x y payload.now mark result) (result ≡ no_object) }
 {
-    match handle.get_mut() {
-        None => NO_OBJECT,
-        Some(receiver) => hear_or_not(receiver, payload, mark),
-    }
-}
-
-fn hear_or_not(receiver: &mut Receiver, payload: &[u8], mark: u64) -> u8
-    ensures { HearsOrNot receiver.old receiver.new payload.now mark result }
-{
+    let Some(receiver) = handle.get_mut() else {
+        return NO_OBJECT;
+    };
     if payload.len() > MAX_PAYLOAD {
         return RANGE;
     }

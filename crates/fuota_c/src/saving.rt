@@ -29,14 +29,8 @@ pub extern "C" fn fuota_device_save(
 {
     match handle.get_mut() {
         None => 0,
-        Some(device) => save(device, into),
+        Some(device) => put_whole(device.save().as_slice(), into),
     }
-}
-
-fn save(device: &Device<CellFlash>, into: &mut [u8]) -> usize
-    ensures { SavesTo device.now into.old into.new result }
-{
-    put_whole(device.save().as_slice(), into)
 }
 
 /// Copies bytes of the file that was received to run next, or of the one that runs, from the offset on, as many as there are and

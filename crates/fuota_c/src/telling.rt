@@ -9,8 +9,7 @@ ghost use Rattle.fuota_c.specs.Telling.{counts_of, next_of, image_number, versio
 
 use crate::device_handle::DeviceHandle;
 use c_base::answer::{DONE, NO_OBJECT};
-use device_core::{Counts, Device};
-use flash_session::CellFlash;
+use device_core::Counts;
 use image_slots::ImageState;
 use std::alloc::Global;
 
@@ -77,16 +76,10 @@ pub extern "C" fn fuota_device_next(
     match handle.get_mut() {
         None => NO_OBJECT,
         Some(device) => {
-            *out = next_of(next_state(device));
+            *out = next_of(device.slots().next());
             DONE
         }
     }
-}
-
-fn next_state(device: &Device<CellFlash>) -> ImageState
-    ensures { result ≡ device.now.slots.next }
-{
-    device.slots().next()
 }
 
 fn next_of(state: ImageState) -> NextFields

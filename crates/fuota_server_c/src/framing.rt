@@ -8,7 +8,6 @@ ghost use Rattle.fuota_server_c.specs.Sent.{GivesFrame, downlink_of, to_of};
 use crate::sent::DownFields;
 use crate::server_handle::ServerHandle;
 use c_base::put_whole;
-use campaign_server::Server;
 use package_grammar::{Downlink, To};
 use std::alloc::Global;
 use wire_base::{MAX_PAYLOAD, Payload};
@@ -26,23 +25,17 @@ pub extern "C" fn fuota_server_frame(
     ensures frame { Tells handle.old.held (λ x. GivesFrame x down.now into.old into.new result)
         ((result ≡ 0) × (into.new ≡ into.old)) }
 {
-    match handle.get_mut() {
-        None => 0,
-        Some(campaign) => put_frame(campaign.server(), down, into),
-    }
-}
-
-fn put_frame(server: &Server, fields: &DownFields, into: &mut [u8]) -> usize
-    ensures { GivesFrame server.now fields.now into.old into.new result }
-{
-    if fields.length > MAX_PAYLOAD {
+    let Some(campaign) = handle.get_mut() else {
+        return 0;
+    };
+    if down.length > MAX_PAYLOAD {
         return 0;
     }
-    let down = downlink_of(fields);
-    if !server.has_frame(&down) {
+    let down = downlink_of(down);
+    if !campaign.server().has_frame(&down) {
         return 0;
     }
-    put_whole(server.frame(&down).as_slice(), into)
+    put_whole(campaign.server().frame(&down).as_slice(), into)
 }
 
 fn downlink_of(fields: &DownFields) -> Downlink

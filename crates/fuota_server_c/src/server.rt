@@ -120,15 +120,9 @@ pub extern "C" fn fuota_server_ask(
     ensures asks { Tells handle.old.held (λ x. Asks x dev out.old out.new result)
         ((result ≡ no_object) × (out.new ≡ out.old)) }
 {
-    match handle.get_mut() {
-        None => NO_OBJECT,
-        Some(campaign) => ask(campaign, dev, out),
-    }
-}
-
-fn ask(campaign: &Campaign, dev: u8, out: &mut DownFields) -> u8
-    ensures { Asks campaign.now dev out.old out.new result }
-{
+    let Some(campaign) = handle.get_mut() else {
+        return NO_OBJECT;
+    };
     if !campaign.has_device(dev) {
         return RANGE;
     }
@@ -171,15 +165,9 @@ pub extern "C" fn fuota_server_ledger(
     ensures stage { Tells handle.old.held (λ x. TellsStage x dev out.old out.new result)
         ((result ≡ no_object) × (out.new ≡ out.old)) }
 {
-    match handle.get_mut() {
-        None => NO_OBJECT,
-        Some(campaign) => tell_stage(campaign, dev, out),
-    }
-}
-
-fn tell_stage(campaign: &Campaign, dev: u8, out: &mut StageFields) -> u8
-    ensures { TellsStage campaign.now dev out.old out.new result }
-{
+    let Some(campaign) = handle.get_mut() else {
+        return NO_OBJECT;
+    };
     if !campaign.has_device(dev) {
         return RANGE;
     }
