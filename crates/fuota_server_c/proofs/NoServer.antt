@@ -7,8 +7,8 @@ use Rattle.campaign_server.specs.declared.saving.RestoreError.TheVariants.{Memor
 use Rattle.campaign_server.specs.Plan.{Plan, bad_field}
 use Rattle.campaign_server.specs.Server.{ServerState}
 use Rattle.c_base.specs.Answer.{range}
-use Rattle.fuota_server_c.specs.Plan.{IsNoServer, field_number}
-use Rattle.fuota_server_c.specs.Saving.{AreCorrupt, IsBack}
+use Rattle.fuota_server_c.specs.Plan.{IsNewServer, IsNoServer, field_number}
+use Rattle.fuota_server_c.specs.Saving.{AreCorrupt, IsBack, IsServerBack}
 
 -- a field of the plan is wrong
 pub wrong_field : (image : List ℕ) (plan told : Plan) (field : Field) (old new : ℕ) → plan ≡ told → is_image image ≡ true
@@ -34,3 +34,14 @@ pub corrupt_bytes : (image : List ℕ) (plan told : Plan) (bytes : List ℕ) (r 
 corrupt_bytes image plan told bytes r same is wrong restored =
     subst (λ (p : Plan). AreCorrupt image p bytes) same
     (record { fine = fine r (bad_field (length image) plan) is wrong; of_none = λ x back. of_none r x is (restored x back) })
+
+-- and then a handle has none
+pub new_none : (image : List ℕ) (plan : Plan) (held : Option ServerState) (old new answer : ℕ) → held ≡ None
+    → IsNoServer image plan old new answer → IsNewServer image plan held old new answer
+new_none image plan None old new answer none why = why
+new_none image plan (Some x) old new answer none why = absurd cc
+
+pub back_none : (image : List ℕ) (plan : Plan) (bytes : List ℕ) (held : Option ServerState) (old new answer : ℕ) → held ≡ None
+    → IsServerBack image plan bytes None old new answer → IsServerBack image plan bytes held old new answer
+back_none image plan bytes None old new answer none why = why
+back_none image plan bytes (Some x) old new answer none why = absurd cc
