@@ -1,3 +1,3 @@
 pub mod Values
 pub mod Handles
-pub mod Moves
+pub mod Structs

@@ -1,6 +1,5 @@
 //! Bytes into C's memory.
 
-ghost use Rattle.std.specs.Prelude.{◌≤◌, length};
 ghost use Rattle.c_base.specs.Bytes.{Copied, Whole};
 
 /// Copies bytes to the front of `into`, where they have room there, and returns their count; 0 where they have none.

@@ -1,34 +1,12 @@
 -- What a decoded payload leaves in memory of C's.
 use Rattle.std.proofs.Common.{◌≡◌, inr, ℕ, List, refl, sym, subst}
-use Rattle.std.specs.Prelude.{Result, Ok, Err, IfOk}
+use Rattle.std.specs.Prelude.{Ok, Err, IfOk}
 use Rattle.wire_base.specs.declared.refusal.Refusal.{Refusal}
 use Rattle.package_grammar.specs.Reading.{Reading}
 use Rattle.sample_decoder.specs.Lines.{lines_of}
-use Rattle.sample_decoder.specs.declared.DecodeError.{DecodeError}
-use Rattle.sample_decoder.specs.declared.DecodeError.TheVariants as why
 use Rattle.c_base.specs.Answer.{no_memory, refused}
 use Rattle.fuota_c.specs.declared.decoding.DecodedFields.{DecodedFields}
 use Rattle.fuota_c.specs.Decoded.{IsDecoded, IsTextOut, why_number}
-
-abbrev IsOk : {A : Type 0} {B : Type 0} → Result A B → Type 0
-IsOk (Ok x) = Unit {0}
-IsOk (Err e) = ⊥
-
-abbrev IsMemory : {A : Type 0} → Result A DecodeError → Type 0
-IsMemory (Ok x) = Unit {0}
-IsMemory (Err why.Memory) = Unit {0}
-IsMemory (Err (why.Refused r)) = ⊥
-
-pub ok_or_err : {A : Type 0} {B : Type 0} (x : A) (e : B) → Ok x ≡ Err e → ⊥
-ok_or_err x e is = subst IsOk is tt
-
-abbrev pub failed : (A : Type 0) → DecodeError → Result A DecodeError
-failed A e = Err e
-
-pub memory_or_refused : (A : Type 0) (e : DecodeError) (r : Refusal) → e ≡ why.Memory
-    → failed A e ≡ failed A (why.Refused r) → ⊥
-memory_or_refused A e r is_memory is =
-    subst IsMemory is (subst (λ (d : DecodeError). IsMemory (failed A d)) (sym is_memory) tt)
 
 -- a text that is out is that of the commands
 pub out_of : (reading : Reading) (text old new : List ℕ) (before out : DecodedFields) (answer : ℕ)

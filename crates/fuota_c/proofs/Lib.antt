@@ -1,3 +1,2 @@
 pub mod Forms
 pub mod Decodings
-pub mod Receivers

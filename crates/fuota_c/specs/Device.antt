@@ -6,8 +6,6 @@ use Rattle.package_grammar.specs.declared.downlink.To.TheVariants.{Unicast, Grou
 use Rattle.package_grammar.specs.declared.downlink.Downlink.{Downlink}
 use Rattle.frag_session.specs.Session.{view_of}
 use Rattle.device_core.specs.declared.config.DeviceConfig.{DeviceConfig}
-use Rattle.device_core.specs.declared.config.ReserveError.{ReserveError}
-use Rattle.device_core.specs.declared.config.ReserveError.TheVariants as reserve
 use Rattle.device_core.specs.declared.delivered.Delivered.{Delivered}
 use Rattle.device_core.specs.declared.delivered.Delivered.TheVariants as delivered
 use Rattle.device_core.specs.declared.delivered.Aired.{Aired}
@@ -38,17 +36,11 @@ pub record IsFirst (config : DeviceConfig) (bytes : List ℕ) (x : HeldDevice Ce
   pub flash : x.sessions.flash.bytes ≡ bytes
   pub starts : Starts config x.sessions.flash x
 
--- BadConfig comes exactly where a number of the configuration is out of its bounds, or the flash has no room
-abbrev pub IsMade : DeviceConfig → (bytes : List ℕ) → Result (HeldDevice Cells) ReserveError → Type 0
-IsMade config bytes (Ok x) = IsTrue (fits config bytes) × IsFirst config bytes x
-IsMade config bytes (Err reserve.BadConfig) = IsTrue (not (fits config bytes))
-IsMade config bytes (Err reserve.Memory) = IsTrue (fits config bytes)
-
 -- there is none where a number is out of its bounds, the flash has no room, or memory was missing
 abbrev pub IsNewDevice : DeviceConfig → (bytes : List ℕ) → Option (HeldDevice Cells) → (answer : ℕ) → Type 0
-IsNewDevice config bytes (Some x) answer = (answer ≡ done) × IsMade config bytes (Ok x)
+IsNewDevice config bytes (Some x) answer = (answer ≡ done) × IsTrue (fits config bytes) × IsFirst config bytes x
 IsNewDevice config bytes None answer =
-    ((answer ≡ range) × IsMade config bytes (Err reserve.BadConfig)) ⊎ ((answer ≡ no_memory) × IsMade config bytes (Err reserve.Memory))
+    ((answer ≡ range) × IsTrue (not (fits config bytes))) ⊎ ((answer ≡ no_memory) × IsTrue (fits config bytes))
 
 -- ---- what comes
 

@@ -1,9 +1,7 @@
 -- What a device saves for C, and the device that is restored from such bytes.
-use Rattle.std.specs.Prelude.{◌≡◌, ◌⊎◌, ℕ, Bool, true, false, not, IsTrue, List, Option, Some, None, Result, Ok, Err}
+use Rattle.std.specs.Prelude.{◌≡◌, ◌⊎◌, ℕ, Bool, true, false, not, IsTrue, List, Option, Some, None}
 use Rattle.flash_session.specs.Flashes.{Cells}
 use Rattle.device_core.specs.declared.config.DeviceConfig.{DeviceConfig}
-use Rattle.device_core.specs.declared.saving.RestoreError.{RestoreError}
-use Rattle.device_core.specs.declared.saving.RestoreError.TheVariants as error
 use Rattle.device_core.specs.HeldDevice.{HeldDevice}
 use Rattle.device_core.specs.HeldSaving.{Saves, Restores, NoneSaved}
 use Rattle.c_base.specs.Answer.{done, range, no_memory, corrupt}
@@ -21,20 +19,14 @@ pub record IsBack (config : DeviceConfig) (flash saved running next : List ℕ) 
   pub flash_is : x.sessions.flash.bytes ≡ flash
   pub restores : Restores config x.sessions.flash saved running next x
 
-abbrev pub IsRestored : DeviceConfig → (flash saved running next : List ℕ) → Result (HeldDevice Cells) RestoreError → Type 0
-IsRestored config flash saved running next (Ok x) = IsTrue (fits config flash) × IsBack config flash saved running next x
-IsRestored config flash saved running next (Err error.BadConfig) = IsTrue (not (fits config flash))
-IsRestored config flash saved running next (Err error.Corrupt) = IsTrue (fits config flash) × NoneSaved config saved running next
-IsRestored config flash saved running next (Err error.Memory) = IsTrue (fits config flash)
-
 -- there is none where a number is out of its bounds, the flash has no room, memory was missing, or no device saved the bytes
 abbrev pub IsDeviceBack : DeviceConfig → (flash saved running next : List ℕ) → Option (HeldDevice Cells) → (answer : ℕ) → Type 0
 IsDeviceBack config flash saved running next (Some x) answer =
-    (answer ≡ done) × IsRestored config flash saved running next (Ok x)
+    (answer ≡ done) × IsTrue (fits config flash) × IsBack config flash saved running next x
 IsDeviceBack config flash saved running next None answer =
-    ((answer ≡ range) × IsRestored config flash saved running next (Err error.BadConfig))
-    ⊎ (((answer ≡ no_memory) × IsRestored config flash saved running next (Err error.Memory))
-    ⊎ ((answer ≡ corrupt) × IsRestored config flash saved running next (Err error.Corrupt)))
+    ((answer ≡ range) × IsTrue (not (fits config flash)))
+    ⊎ (((answer ≡ no_memory) × IsTrue (fits config flash))
+    ⊎ ((answer ≡ corrupt) × IsTrue (fits config flash) × NoneSaved config saved running next))
 
 -- the file that runs, or that was received to run next
 abbrev pub slot_file : HeldDevice Cells → (is_next : Bool) → List ℕ

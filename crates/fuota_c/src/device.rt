@@ -1,12 +1,11 @@
 //! A device of all four packages.
 
 ghost use Rattle.std.specs.Prelude.{◌≡◌, ◌≤◌, None, [], length};
-ghost use Rattle.core.specs.Result.{result_map_both};
 ghost use Rattle.wire_base.specs.Payload.{max_payload};
 ghost use Rattle.c_base.specs.Answer.{done, no_object};
 ghost use Rattle.c_base.specs.Calls.{Does, Tells};
 ghost use Rattle.fuota_c.specs.Config.{config_of};
-ghost use Rattle.fuota_c.specs.Device.{IsNewDevice, IsMade, DeliversOrNot, WakesOrNot, TakesUplink, IsUplinkOut, IsSessionShown, IsSessionFile, downlink_of, delivered_number};
+ghost use Rattle.fuota_c.specs.Device.{IsNewDevice, DeliversOrNot, WakesOrNot, TakesUplink, IsUplinkOut, IsSessionShown, IsSessionFile, downlink_of, delivered_number};
 
 use crate::config::{ConfigFields, config_of, fits};
 use crate::device_handle::DeviceHandle;
@@ -14,7 +13,7 @@ use crate::shown::{ViewFields, file_in, show};
 use c_base::answer::{
     DEAF, DONE, DOWN, FLASH, FULL, NO_MEMORY, NO_OBJECT, NOTHING, RANGE, REFUSED,
 };
-use c_base::{copy_part, put_whole};
+use c_base::{Handle, copy_part, put_whole};
 use device_core::{Delivered, Device, DeviceConfig, OutboxFull, ReserveError, Uplink};
 use flash_session::CellFlash;
 use package_grammar::{Downlink, To};
@@ -68,36 +67,22 @@ pub fn put_new(handle: &mut DeviceHandle, alloc: Global, config: DeviceConfig, b
     ensures { IsNewDevice config bytes.now handle.new.held result }
 {
     fuota_device_free(handle, alloc);
-    match boxed(alloc, config, bytes) {
-        Ok(device) => {
-            *handle = DeviceHandle::of(device);
-            DONE
-        }
-        Err(ReserveError::BadConfig) => RANGE,
-        Err(ReserveError::Memory) => NO_MEMORY,
-    }
-}
-
-fn boxed(
-    alloc: Global,
-    config: DeviceConfig,
-    bytes: &[u8],
-) -> Result<Box<Device<CellFlash>>, ReserveError>
-    ensures { IsMade config bytes.now (result_map_both (λ b. b.value) (λ e. e) result) }
-{
     if !fits(&config, bytes) {
-        return Err(ReserveError::BadConfig);
+        return RANGE;
     }
     let Ok(flash) = CellFlash::of_bytes(alloc, bytes) else {
-        return Err(ReserveError::Memory);
+        return NO_MEMORY;
     };
-    match Device::reserve(alloc, config, flash) {
-        Err(error) => Err(error),
-        Ok(device) => match Box::new(alloc, device) {
-            Err(_) => Err(ReserveError::Memory),
-            Ok(device) => Ok(device),
-        },
-    }
+    let device = match Device::reserve(alloc, config, flash) {
+        Ok(device) => device,
+        Err(ReserveError::BadConfig) => return RANGE,
+        Err(ReserveError::Memory) => return NO_MEMORY,
+    };
+    let Ok(device) = Box::new(alloc, device) else {
+        return NO_MEMORY;
+    };
+    let _none = handle.replace(Handle::of(device)).into_box();
+    DONE
 }
 
 /// Frees the device, if there is one; the handle has none afterwards.
@@ -106,7 +91,7 @@ pub extern "C" fn fuota_device_free(handle: &mut DeviceHandle, alloc: Global)
     ensures { handle.new.held ≡ None }
 {
     // It is dropped here, and its memory with it.
-    let _device = handle.take(alloc);
+    let _device = handle.replace(Handle::none(alloc)).into_box();
 }
 
 /// Brings a payload: done, where its commands acted; deaf, refused or full, where they did not; down where its sessions are;
@@ -122,24 +107,9 @@ pub extern "C" fn fuota_device_deliver(
     ensures { Does handle.old.held handle.new.held
         (λ x y. DeliversOrNot x y port payload.now arrival.now result) (result ≡ no_object) }
 {
-    match handle.take(alloc) {
-        None => NO_OBJECT,
-        Some(mut device) => {
-            let answer = deliver_or_not(&mut device, port, payload, arrival);
-            *handle = DeviceHandle::of(device);
-            answer
-        }
-    }
-}
-
-fn deliver_or_not(
-    device: &mut Device<CellFlash>,
-    port: u8,
-    payload: &[u8],
-    arrival: &ArrivalFields,
-) -> u8
-    ensures { DeliversOrNot device.old device.new port payload.now arrival.now result }
-{
+    let Some(device) = handle.get_mut() else {
+        return NO_OBJECT;
+    };
     if payload.len() > MAX_PAYLOAD || arrival.t > MAX_MOMENT {
         return RANGE;
     }
@@ -188,19 +158,9 @@ pub extern "C" fn fuota_device_wake(handle: &mut DeviceHandle, alloc: Global, t:
     ensures { Does handle.old.held handle.new.held (λ x y. WakesOrNot x y t result)
         (result ≡ no_object) }
 {
-    match handle.take(alloc) {
-        None => NO_OBJECT,
-        Some(mut device) => {
-            let answer = wake_or_not(&mut device, t);
-            *handle = DeviceHandle::of(device);
-            answer
-        }
-    }
-}
-
-fn wake_or_not(device: &mut Device<CellFlash>, t: u64) -> u8
-    ensures { WakesOrNot device.old device.new t result }
-{
+    let Some(device) = handle.get_mut() else {
+        return NO_OBJECT;
+    };
     if t > MAX_MOMENT {
         return RANGE;
     }
@@ -220,19 +180,9 @@ pub extern "C" fn fuota_device_take_uplink(
     ensures { Does handle.old.held handle.new.held (λ x y. TakesUplink x y out.old out.new result)
         ((result ≡ no_object) × (out.new ≡ out.old)) }
 {
-    match handle.take(alloc) {
-        None => NO_OBJECT,
-        Some(mut device) => {
-            let answer = take_uplink(&mut device, out);
-            *handle = DeviceHandle::of(device);
-            answer
-        }
-    }
-}
-
-fn take_uplink(device: &mut Device<CellFlash>, out: &mut UplinkFields) -> u8
-    ensures { TakesUplink device.old device.new out.old out.new result }
-{
+    let Some(device) = handle.get_mut() else {
+        return NO_OBJECT;
+    };
     match device.take_uplink() {
         None => NOTHING,
         Some(uplink) => {
@@ -263,19 +213,9 @@ pub extern "C" fn fuota_device_view(
     ensures view { Tells handle.old.held (λ x. IsSessionShown x index out.old out.new result)
         ((result ≡ no_object) × (out.new ≡ out.old)) }
 {
-    match handle.take(alloc) {
-        None => NO_OBJECT,
-        Some(device) => {
-            let answer = show_session(&device, index, out);
-            *handle = DeviceHandle::of(device);
-            answer
-        }
-    }
-}
-
-fn show_session(device: &Device<CellFlash>, index: u8, out: &mut ViewFields) -> u8
-    ensures { IsSessionShown device.now index out.old out.new result }
-{
+    let Some(device) = handle.get_mut() else {
+        return NO_OBJECT;
+    };
     if index >= SESSIONS {
         return RANGE;
     }
@@ -297,19 +237,9 @@ pub extern "C" fn fuota_device_file(
         (λ x. IsSessionFile x index offset into.old into.new result)
         ((result ≡ 0) × (into.new ≡ into.old)) }
 {
-    match handle.take(alloc) {
-        None => 0,
-        Some(device) => {
-            let count = copy_session(&device, index, offset, into);
-            *handle = DeviceHandle::of(device);
-            count
-        }
-    }
-}
-
-fn copy_session(device: &Device<CellFlash>, index: u8, offset: usize, into: &mut [u8]) -> usize
-    ensures { IsSessionFile device.now index offset into.old into.new result }
-{
+    let Some(device) = handle.get_mut() else {
+        return 0;
+    };
     if index >= SESSIONS {
         return 0;
     }
@@ -327,19 +257,11 @@ pub extern "C" fn fuota_device_running(
     ensures version { Tells handle.old.held (λ x. (result ≡ done) × (version.new ≡ x.slots.version))
         ((result ≡ no_object) × (version.new ≡ version.old)) }
 {
-    match handle.take(alloc) {
+    match handle.get_mut() {
         None => NO_OBJECT,
         Some(device) => {
-            *version = running(&device);
-            *handle = DeviceHandle::of(device);
+            *version = device.slots().running().0;
             DONE
         }
     }
-}
-
-fn running(device: &Device<CellFlash>) -> u32
-    ensures { result ≡ device.now.slots.version }
-{
-    let (version, _file) = device.slots().running();
-    version
 }

@@ -1,6 +1,6 @@
 //! A device as C holds it.
 
-ghost use Rattle.std.specs.Prelude.{◌≡◌, Option, None, Some, option_map};
+ghost use Rattle.std.specs.Prelude.{◌≡◌, Option, Some, option_map};
 ghost use Rattle.flash_session.specs.Flashes.{Cells};
 ghost use Rattle.device_core.specs.HeldDevice.{HeldDevice};
 
@@ -9,7 +9,6 @@ use device_core::Device;
 use flash_session::CellFlash;
 use std::alloc::Global;
 use std::marker::Model;
-use std::mem::replace;
 
 /// The place of a device in memory, or none. To C it is one pointer.
 #[repr(C)]
@@ -26,48 +25,32 @@ impl Model for DeviceHandle {
     ghost also_owns = { λ h. held_at device_row h.alloc h.at h.held };
 }
 
-impl Drop for DeviceHandle {
-    /// Frees the device, where there is one.
-    fn drop(self) {
-        // dropped at the end of this block
-        let _device = self.into_handle().into_box();
-    }
-}
-
 impl DeviceHandle {
-    /// Makes the handle of a device.
-    pub fn of(device: Box<Device<CellFlash>>) -> DeviceHandle
-        ensures { result.held ≡ Some device.value }
+    ghost use Rattle.std.specs.Borrow.{LendsIf, sem};
+    ghost use Rattle.fuota_c.specs.Held.{device_row};
+    ghost use Rattle.fuota_c.specs.contracts.device_handle.DeviceHandle.{the_row};
+
+    /// Lends the device, where there is one.
+    pub fn get_mut(&mut self) -> Option<&mut Device<CellFlash>>
+        ensures* lends { sem 𝓛 (LendsIf the_row device_row self.entry result
+            (λ w. record self.entry.now { held = Some w }) self.entry.now) }
+        ensures value { option_map (λ x. x.now) result ≡ self.old.held }
     {
-        DeviceHandle::of_handle(Handle::of(device))
+        let at = self.at as *mut Device<CellFlash>;
+        if at.is_null() {
+            return None;
+        }
+        Some(unsafe { &mut *at })
     }
 
-    /// Takes the device out of the handle, where there is one.
-    pub fn take(&mut self, alloc: Global) -> Option<Box<Device<CellFlash>>>
-        ensures value { option_map (λ b. b.value) result ≡ self.old.held }
-        ensures none { self.new.held ≡ None }
-    {
-        let none = DeviceHandle::of_handle(Handle::none(alloc));
-        replace(self, none).into_handle().into_box()
-    }
-
-    fn of_handle(handle: Handle<Device<CellFlash>>) -> DeviceHandle
-        ensures { result.held ≡ handle.held }
+    /// Puts what a handle has in the place of what this one has, which it returns.
+    pub fn replace(&mut self, handle: Handle<Device<CellFlash>>) -> Handle<Device<CellFlash>>
+        ensures old { result.held ≡ self.old.held }
+        ensures new { self.new.held ≡ handle.held }
     {
         let Handle { at, alloc } = handle;
-        DeviceHandle {
-            at: at as *mut u8,
-            alloc,
-        }
-    }
-
-    fn into_handle(self) -> Handle<Device<CellFlash>>
-        ensures { result.held ≡ self.held }
-    {
-        let DeviceHandle { at, alloc } = self;
-        Handle {
-            at: at as *mut Device<CellFlash>,
-            alloc,
-        }
+        let old = self.at as *mut Device<CellFlash>;
+        self.at = at as *mut u8;
+        Handle { at: old, alloc }
     }
 }

@@ -16,8 +16,6 @@ use crate::device_handle::DeviceHandle;
 use crate::saving::put_back;
 use c_base::answer::{DONE, FLASH, NO_OBJECT, NOTHING};
 use c_base::copy_part;
-use device_core::Device;
-use flash_session::CellFlash;
 use std::alloc::Global;
 
 /// Does what `fuota_device_new` does, for a device whose sessions are held in a flash of these bytes, each in `span` of them.
@@ -71,19 +69,9 @@ pub extern "C" fn fuota_device_power(handle: &mut DeviceHandle, alloc: Global) -
     ensures { Does handle.old.held handle.new.held (λ x y. PowersOrNot x y result)
         (result ≡ no_object) }
 {
-    match handle.take(alloc) {
-        None => NO_OBJECT,
-        Some(mut device) => {
-            let answer = power_or_not(&mut device);
-            *handle = DeviceHandle::of(device);
-            answer
-        }
-    }
-}
-
-fn power_or_not(device: &mut Device<CellFlash>) -> u8
-    ensures { PowersOrNot device.old device.new result }
-{
+    let Some(device) = handle.get_mut() else {
+        return NO_OBJECT;
+    };
     if !device.is_held() {
         return NOTHING;
     }
@@ -107,18 +95,8 @@ pub extern "C" fn fuota_device_flash(
         (λ x. Copied x.sessions.flash.bytes offset into.old into.new result)
         ((result ≡ 0) × (into.new ≡ into.old)) }
 {
-    match handle.take(alloc) {
+    match handle.get_mut() {
         None => 0,
-        Some(device) => {
-            let count = copy_flash(&device, offset, into);
-            *handle = DeviceHandle::of(device);
-            count
-        }
+        Some(device) => copy_part(device.flash().bytes(), offset, into),
     }
-}
-
-fn copy_flash(device: &Device<CellFlash>, offset: usize, into: &mut [u8]) -> usize
-    ensures { Copied device.now.sessions.flash.bytes offset into.old into.new result }
-{
-    copy_part(device.flash().bytes(), offset, into)
 }

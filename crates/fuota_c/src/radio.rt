@@ -8,8 +8,7 @@ ghost use Rattle.fuota_c.specs.Device.{HearsFrameOrNot, aired_number};
 use crate::device::{MAX_MOMENT, delivered_number};
 use crate::device_handle::DeviceHandle;
 use c_base::answer::{FOREIGN, NO_OBJECT, RANGE};
-use device_core::{Aired, Device};
-use flash_session::CellFlash;
+use device_core::Aired;
 use std::alloc::Global;
 
 /// Takes bytes that the radio heard at `t` ms of true time, with a random word and the number that marks a verdict: foreign where
@@ -27,19 +26,9 @@ pub extern "C" fn fuota_device_radio(
     ensures { Does handle.old.held handle.new.held
         (λ x y. HearsFrameOrNot x y bytes.now t word mark result) (result ≡ no_object) }
 {
-    match handle.take(alloc) {
-        None => NO_OBJECT,
-        Some(mut device) => {
-            let answer = radio_or_not(&mut device, bytes, t, word, mark);
-            *handle = DeviceHandle::of(device);
-            answer
-        }
-    }
-}
-
-fn radio_or_not(device: &mut Device<CellFlash>, bytes: &[u8], t: u64, word: u32, mark: u64) -> u8
-    ensures { HearsFrameOrNot device.old device.new bytes.now t word mark result }
-{
+    let Some(device) = handle.get_mut() else {
+        return NO_OBJECT;
+    };
     if t > MAX_MOMENT {
         return RANGE;
     }

@@ -1,8 +1,7 @@
 //! A receiver of one file at a time.
 
-ghost use Rattle.std.specs.Prelude.{◌≡◌, ◌<◌, ◌≤◌, None, IfSome, IsNone, IfOk, Option, option_map};
+ghost use Rattle.std.specs.Prelude.{◌≡◌, ◌<◌, None, IfSome, IsNone, Option};
 ghost use Rattle.frag_session.specs.Session.{Session, view_of, status_of};
-ghost use Rattle.frag_session.specs.HeldView.{seen};
 ghost use Rattle.frag_session.specs.declared.answers.Via.TheVariants.{Unicast};
 ghost use Rattle.c_base.specs.Answer.{no_object, no_receiver};
 ghost use Rattle.c_base.specs.Calls.{Does, Tells};
@@ -13,7 +12,7 @@ use crate::receiver_handle::ReceiverHandle;
 use crate::shown::{ViewFields, file_in, show};
 use crate::sized_receiver::{Receiver, Size, hear, new_receiver, set_up, status, view};
 use c_base::answer::{DONE, NO_MEMORY, NO_OBJECT, NO_RECEIVER, RANGE};
-use c_base::{copy_part, put_whole};
+use c_base::{Handle, copy_part, put_whole};
 use cast_wire::{Cmd, FRAGMENT_PORT};
 use frag_session::SetupReq;
 use package_grammar::{Command, spelled};
@@ -45,13 +44,14 @@ pub extern "C" fn fuota_receiver_new(handle: &mut ReceiverHandle, alloc: Global,
     let Some(size) = size_of(size) else {
         return RANGE;
     };
-    match made(alloc, size) {
-        None => NO_MEMORY,
-        Some(receiver) => {
-            *handle = ReceiverHandle::of(receiver);
-            DONE
-        }
-    }
+    let Ok(receiver) = new_receiver(alloc, size) else {
+        return NO_MEMORY;
+    };
+    let Ok(receiver) = Box::new(alloc, receiver) else {
+        return NO_MEMORY;
+    };
+    let _none = handle.replace(Handle::of(receiver)).into_box();
+    DONE
 }
 
 /// The size with a number.
@@ -67,25 +67,13 @@ fn size_of(number: u8) -> Option<Size>
     }
 }
 
-fn made(alloc: Global, size: Size) -> Option<Box<Receiver>>
-    ensures { IfSome result (λ b. ReceiverStands size b.value None) }
-{
-    match new_receiver(alloc, size) {
-        Err(_) => None,
-        Ok(receiver) => match Box::new(alloc, receiver) {
-            Err(_) => None,
-            Ok(receiver) => Some(receiver),
-        },
-    }
-}
-
 /// Frees the receiver, where there is one; the handle has none afterwards.
 #[unsafe(no_mangle)]
 pub extern "C" fn fuota_receiver_free(handle: &mut ReceiverHandle, alloc: Global)
     ensures { handle.new.held ≡ None }
 {
     // It is dropped here, and its memory with it.
-    let _receiver = handle.take(alloc);
+    let _receiver = handle.replace(Handle::none(alloc)).into_box();
 }
 
 /// Takes a FragSessionSetupReq and returns all refusal bits of its answer, 0 where it has a session; 255 where there is no
@@ -99,13 +87,9 @@ pub extern "C" fn fuota_receiver_set_up(
     ensures { Does handle.old.held handle.new.held
         (λ x y. SetsUp x y (setup_of setup.now) result) (result ≡ no_receiver) }
 {
-    match handle.take(alloc) {
+    match handle.get_mut() {
         None => NO_RECEIVER,
-        Some(mut receiver) => {
-            let bits = set_up(&mut receiver, request_of(setup));
-            *handle = ReceiverHandle::of(receiver);
-            bits
-        }
+        Some(receiver) => set_up(receiver, request_of(setup)),
     }
 }
 
@@ -135,19 +119,9 @@ pub extern "C" fn fuota_receiver_hear(
     ensures { Does handle.old.held handle.new.held
         (λ x y. HearsOrNot x y payload.now mark result) (result ≡ no_object) }
 {
-    match handle.take(alloc) {
-        None => NO_OBJECT,
-        Some(mut receiver) => {
-            let answer = hear_or_not(&mut receiver, payload, mark);
-            *handle = ReceiverHandle::of(receiver);
-            answer
-        }
-    }
-}
-
-fn hear_or_not(receiver: &mut Receiver, payload: &[u8], mark: u64) -> u8
-    ensures { HearsOrNot receiver.old receiver.new payload.now mark result }
-{
+    let Some(receiver) = handle.get_mut() else {
+        return NO_OBJECT;
+    };
     if payload.len() > MAX_PAYLOAD {
         return RANGE;
     }
@@ -168,13 +142,9 @@ pub extern "C" fn fuota_receiver_view(
         → IsShown (view_of s) out.old out.new result)
         ((result ≡ no_object) × (out.new ≡ out.old)) }
 {
-    match handle.take(alloc) {
+    match handle.get_mut() {
         None => NO_OBJECT,
-        Some(receiver) => {
-            let answer = show(view(&receiver), out);
-            *handle = ReceiverHandle::of(receiver);
-            answer
-        }
+        Some(receiver) => show(view(receiver), out),
     }
 }
 
@@ -192,13 +162,9 @@ pub extern "C" fn fuota_receiver_file(
         → IsFileCopy (view_of s) offset into.old into.new result)
         ((result ≡ 0) × (into.new ≡ into.old)) }
 {
-    match handle.take(alloc) {
+    match handle.get_mut() {
         None => 0,
-        Some(receiver) => {
-            let count = copy_part(file_in(view(&receiver)), offset, into);
-            *handle = ReceiverHandle::of(receiver);
-            count
-        }
+        Some(receiver) => copy_part(file_in(view(receiver)), offset, into),
     }
 }
 
@@ -217,13 +183,9 @@ pub extern "C" fn fuota_receiver_status(
         → IsStatus s all answer.old answer.new result)
         ((result ≡ 0) × (answer.new ≡ answer.old)) }
 {
-    match handle.take(alloc) {
+    match handle.get_mut() {
         None => 0,
-        Some(receiver) => {
-            let count = put_whole(status_bytes(&receiver, all).as_slice(), answer);
-            *handle = ReceiverHandle::of(receiver);
-            count
-        }
+        Some(receiver) => put_whole(status_bytes(receiver, all).as_slice(), answer),
     }
 }
 

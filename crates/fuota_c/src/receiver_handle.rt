@@ -1,13 +1,12 @@
 //! A receiver as C holds it.
 
-ghost use Rattle.std.specs.Prelude.{◌≡◌, Option, None, Some, option_map};
+ghost use Rattle.std.specs.Prelude.{◌≡◌, Option, Some, option_map};
 ghost use Rattle.fuota_c.specs.declared.sized_receiver.Receiver.{Receiver as Held};
 
 use crate::sized_receiver::Receiver;
 use c_base::Handle;
 use std::alloc::Global;
 use std::marker::Model;
-use std::mem::replace;
 
 /// The place of a receiver in memory, or none. To C it is one pointer.
 #[repr(C)]
@@ -24,48 +23,32 @@ impl Model for ReceiverHandle {
     ghost also_owns = { λ h. held_at receiver_row h.alloc h.at h.held };
 }
 
-impl Drop for ReceiverHandle {
-    /// Frees the receiver, where there is one.
-    fn drop(self) {
-        // dropped at the end of this block
-        let _receiver = self.into_handle().into_box();
-    }
-}
-
 impl ReceiverHandle {
-    /// Makes the handle of a receiver.
-    pub fn of(receiver: Box<Receiver>) -> ReceiverHandle
-        ensures { result.held ≡ Some receiver.value }
+    ghost use Rattle.std.specs.Borrow.{LendsIf, sem};
+    ghost use Rattle.fuota_c.specs.Held.{receiver_row};
+    ghost use Rattle.fuota_c.specs.contracts.receiver_handle.ReceiverHandle.{the_row};
+
+    /// Lends the receiver, where there is one.
+    pub fn get_mut(&mut self) -> Option<&mut Receiver>
+        ensures* lends { sem 𝓛 (LendsIf the_row receiver_row self.entry result
+            (λ w. record self.entry.now { held = Some w }) self.entry.now) }
+        ensures value { option_map (λ x. x.now) result ≡ self.old.held }
     {
-        ReceiverHandle::of_handle(Handle::of(receiver))
+        let at = self.at as *mut Receiver;
+        if at.is_null() {
+            return None;
+        }
+        Some(unsafe { &mut *at })
     }
 
-    /// Takes the receiver out of the handle, where there is one.
-    pub fn take(&mut self, alloc: Global) -> Option<Box<Receiver>>
-        ensures value { option_map (λ b. b.value) result ≡ self.old.held }
-        ensures none { self.new.held ≡ None }
-    {
-        let none = ReceiverHandle::of_handle(Handle::none(alloc));
-        replace(self, none).into_handle().into_box()
-    }
-
-    fn of_handle(handle: Handle<Receiver>) -> ReceiverHandle
-        ensures { result.held ≡ handle.held }
+    /// Puts what a handle has in the place of what this one has, which it returns.
+    pub fn replace(&mut self, handle: Handle<Receiver>) -> Handle<Receiver>
+        ensures old { result.held ≡ self.old.held }
+        ensures new { self.new.held ≡ handle.held }
     {
         let Handle { at, alloc } = handle;
-        ReceiverHandle {
-            at: at as *mut u8,
-            alloc,
-        }
-    }
-
-    fn into_handle(self) -> Handle<Receiver>
-        ensures { result.held ≡ self.held }
-    {
-        let ReceiverHandle { at, alloc } = self;
-        Handle {
-            at: at as *mut Receiver,
-            alloc,
-        }
+        let old = self.at as *mut Receiver;
+        self.at = at as *mut u8;
+        Handle { at: old, alloc }
     }
 }

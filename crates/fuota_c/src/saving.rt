@@ -1,17 +1,16 @@
 //! A device outlasts its process: what it saves, the files of its slots, and the device that is restored from both.
 
 ghost use Rattle.std.specs.Prelude.{◌≡◌, []};
-ghost use Rattle.core.specs.Result.{result_map_both};
 ghost use Rattle.c_base.specs.Bytes.{Copied};
 ghost use Rattle.c_base.specs.Calls.{Tells};
 ghost use Rattle.fuota_c.specs.Config.{config_of};
-ghost use Rattle.fuota_c.specs.Saving.{IsDeviceBack, IsRestored, SavesTo, slot_file};
+ghost use Rattle.fuota_c.specs.Saving.{IsDeviceBack, SavesTo, slot_file};
 
 use crate::config::{ConfigFields, config_of, fits};
 use crate::device::fuota_device_free;
 use crate::device_handle::DeviceHandle;
 use c_base::answer::{CORRUPT, DONE, NO_MEMORY, RANGE};
-use c_base::{copy_part, put_whole};
+use c_base::{Handle, copy_part, put_whole};
 use device_core::{Device, DeviceConfig, RestoreError};
 use flash_session::CellFlash;
 use std::alloc::Global;
@@ -28,20 +27,10 @@ pub extern "C" fn fuota_device_save(
     ensures saved { Tells handle.old.held (λ x. SavesTo x into.old into.new result)
         ((result ≡ 0) × (into.new ≡ into.old)) }
 {
-    match handle.take(alloc) {
+    match handle.get_mut() {
         None => 0,
-        Some(device) => {
-            let count = save(&device, into);
-            *handle = DeviceHandle::of(device);
-            count
-        }
+        Some(device) => put_whole(device.save().as_slice(), into),
     }
-}
-
-fn save(device: &Device<CellFlash>, into: &mut [u8]) -> usize
-    ensures { SavesTo device.now into.old into.new result }
-{
-    put_whole(device.save().as_slice(), into)
 }
 
 /// Copies bytes of the file that was received to run next, or of the one that runs, from the offset on, as many as there are and
@@ -59,13 +48,9 @@ pub extern "C" fn fuota_device_firmware(
         (λ x. Copied (slot_file x is_next) offset into.old into.new result)
         ((result ≡ 0) × (into.new ≡ into.old)) }
 {
-    match handle.take(alloc) {
+    match handle.get_mut() {
         None => 0,
-        Some(device) => {
-            let count = copy_part(slot_file(&device, is_next), offset, into);
-            *handle = DeviceHandle::of(device);
-            count
-        }
+        Some(device) => copy_part(slot_file(device, is_next), offset, into),
     }
 }
 
@@ -110,52 +95,21 @@ pub fn put_back(
     ensures { IsDeviceBack config flash.now saved.now running.now next.now handle.new.held result }
 {
     fuota_device_free(handle, alloc);
-    match boxed(alloc, config, flash, saved, running, next) {
-        Ok(device) => {
-            *handle = DeviceHandle::of(device);
-            DONE
-        }
-        Err(RestoreError::BadConfig) => RANGE,
-        Err(RestoreError::Corrupt) => CORRUPT,
-        Err(RestoreError::Memory) => NO_MEMORY,
-    }
-}
-
-fn boxed(
-    alloc: Global,
-    config: DeviceConfig,
-    flash: &[u8],
-    saved: &[u8],
-    running: &[u8],
-    next: &[u8],
-) -> Result<Box<Device<CellFlash>>, RestoreError>
-    ensures { IsRestored config flash.now saved.now running.now next.now
-        (result_map_both (λ b. b.value) (λ e. e) result) }
-{
-    match restored(alloc, config, flash, saved, running, next) {
-        Err(error) => Err(error),
-        Ok(device) => match Box::new(alloc, device) {
-            Err(_) => Err(RestoreError::Memory),
-            Ok(device) => Ok(device),
-        },
-    }
-}
-
-fn restored(
-    alloc: Global,
-    config: DeviceConfig,
-    flash: &[u8],
-    saved: &[u8],
-    running: &[u8],
-    next: &[u8],
-) -> Result<Device<CellFlash>, RestoreError>
-    ensures { IsRestored config flash.now saved.now running.now next.now result }
-{
     if !fits(&config, flash) {
-        return Err(RestoreError::BadConfig);
+        return RANGE;
     }
     let Ok(cells) = CellFlash::of_bytes(alloc, flash) else {
-        return Err(RestoreError::Memory);
+        return NO_MEMORY;
     };
-    Device::restore(alloc, config, cells, saved, running, next)
+    let device = match Device::restore(alloc, config, cells, saved, running, next) {
+        Ok(device) => device,
+        Err(RestoreError::BadConfig) => return RANGE,
+        Err(RestoreError::Corrupt) => return CORRUPT,
+        Err(RestoreError::Memory) => return NO_MEMORY,
+    };
+    let Ok(device) = Box::new(alloc, device) else {
+        return NO_MEMORY;
+    };
+    let _none = handle.replace(Handle::of(device)).into_box();
+    DONE
 }

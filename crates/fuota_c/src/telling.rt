@@ -9,8 +9,7 @@ ghost use Rattle.fuota_c.specs.Telling.{counts_of, next_of, image_number, versio
 
 use crate::device_handle::DeviceHandle;
 use c_base::answer::{DONE, NO_OBJECT};
-use device_core::{Counts, Device};
-use flash_session::CellFlash;
+use device_core::Counts;
 use image_slots::ImageState;
 use std::alloc::Global;
 
@@ -43,11 +42,10 @@ pub extern "C" fn fuota_device_counts(
     ensures counts { Tells handle.old.held (λ x. (result ≡ done) × (out.new ≡ counts_of x.counts))
         ((result ≡ no_object) × (out.new ≡ out.old)) }
 {
-    match handle.take(alloc) {
+    match handle.get_mut() {
         None => NO_OBJECT,
         Some(device) => {
             *out = counts_of(device.counts());
-            *handle = DeviceHandle::of(device);
             DONE
         }
     }
@@ -75,20 +73,13 @@ pub extern "C" fn fuota_device_next(
     ensures next { Tells handle.old.held (λ x. (result ≡ done) × (out.new ≡ next_of x.slots.next))
         ((result ≡ no_object) × (out.new ≡ out.old)) }
 {
-    match handle.take(alloc) {
+    match handle.get_mut() {
         None => NO_OBJECT,
         Some(device) => {
-            *out = next_of(next_state(&device));
-            *handle = DeviceHandle::of(device);
+            *out = next_of(device.slots().next());
             DONE
         }
     }
-}
-
-fn next_state(device: &Device<CellFlash>) -> ImageState
-    ensures { result ≡ device.now.slots.next }
-{
-    device.slots().next()
 }
 
 fn next_of(state: ImageState) -> NextFields
@@ -126,11 +117,10 @@ pub extern "C" fn fuota_device_raise(handle: &mut DeviceHandle, alloc: Global) -
     ensures { Does handle.old.held handle.new.held
         (λ x y. (result ≡ done) × Becomes x y after_migration) (result ≡ no_object) }
 {
-    match handle.take(alloc) {
+    match handle.get_mut() {
         None => NO_OBJECT,
-        Some(mut device) => {
+        Some(device) => {
             device.raise();
-            *handle = DeviceHandle::of(device);
             DONE
         }
     }

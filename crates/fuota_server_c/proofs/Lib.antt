@@ -1,3 +1,2 @@
 pub mod Forms
-pub mod Plans
-pub mod Restored
+pub mod NoServer

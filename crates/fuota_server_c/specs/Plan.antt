@@ -1,5 +1,5 @@
 -- What a server has to do, as C says it, and the server that is made from it.
-use Rattle.std.specs.Prelude.{◌≡◌, ◌⊎◌, ℕ, Bool, true, false, List, length, map, Option, Some, None, Result, Ok, Err}
+use Rattle.std.specs.Prelude.{◌≡◌, ◌⊎◌, ℕ, Bool, true, false, List, length, map, Option, Some, None}
 use Rattle.image_slots.specs.Image.{is_image}
 use Rattle.mc_keys.specs.declared.root_kind.RootKind.{RootKind}
 use Rattle.mc_keys.specs.declared.root_kind.RootKind.TheVariants.{V10, V11}
@@ -10,8 +10,6 @@ use Rattle.campaign_server.specs.declared.plan.Kind.TheVariants as kind
 use Rattle.campaign_server.specs.declared.plan.PlanDevice.{PlanDevice}
 use Rattle.campaign_server.specs.declared.plan.PlanGroup.{PlanGroup}
 use Rattle.campaign_server.specs.declared.plan.PlanWindow.{PlanWindow}
-use Rattle.campaign_server.specs.declared.server.ServerError.{ServerError}
-use Rattle.campaign_server.specs.declared.server.ServerError.TheVariants as error
 use Rattle.campaign_server.specs.Plan.{Plan, bad_field}
 use Rattle.campaign_server.specs.Server.{ServerState, first_server}
 use Rattle.c_base.specs.Answer.{done, range, no_memory, refused}
@@ -73,11 +71,9 @@ field_number field.Window = 4
 field_number field.Devices = 5
 field_number field.Index = 6
 
--- a server at its start where no field of the plan is wrong; else the first that is
-abbrev pub IsMade : (image : List ℕ) → Plan → Result ServerState ServerError → Type 0
-IsMade image plan (Ok x) = (x ≡ first_server image plan) × (bad_field (length image) plan ≡ None)
-IsMade image plan (Err (error.BadPlan wrong)) = bad_field (length image) plan ≡ Some wrong
-IsMade image plan (Err error.Memory) = Unit {0}
+-- a server at its start, of a plan of which no field is wrong
+abbrev pub IsFirst : (image : List ℕ) → Plan → ServerState → Type 0
+IsFirst image plan x = (x ≡ first_server image plan) × (bad_field (length image) plan ≡ None)
 
 -- the first field that is wrong has this number
 pub record IsWrong (image : List ℕ) (plan : Plan) (number : ℕ) : Type 0 where
@@ -94,5 +90,5 @@ IsNoServer image plan old new answer =
 
 abbrev pub IsNewServer : (image : List ℕ) → Plan → Option ServerState → (old new answer : ℕ) → Type 0
 IsNewServer image plan (Some x) old new answer =
-    (answer ≡ done) × (is_image image ≡ true) × IsMade image plan (Ok x) × (new ≡ old)
+    (answer ≡ done) × (is_image image ≡ true) × IsFirst image plan x × (new ≡ old)
 IsNewServer image plan None old new answer = IsNoServer image plan old new answer

@@ -1,8 +1,6 @@
 -- What a server saves for C, and the server that is restored from such bytes.
-use Rattle.std.specs.Prelude.{◌≡◌, ◌⊎◌, ℕ, true, List, length, Option, Some, None, Result, Ok, Err}
+use Rattle.std.specs.Prelude.{◌≡◌, ◌⊎◌, ℕ, true, List, length, Option, Some, None}
 use Rattle.image_slots.specs.Image.{is_image}
-use Rattle.campaign_server.specs.declared.saving.RestoreError.{RestoreError}
-use Rattle.campaign_server.specs.declared.saving.RestoreError.TheVariants as error
 use Rattle.campaign_server.specs.Plan.{Plan, bad_field}
 use Rattle.campaign_server.specs.Saving.{IsOver, saved_of}
 use Rattle.campaign_server.specs.Server.{ServerState}
@@ -17,12 +15,6 @@ IsBack image plan bytes x = IsOver plan image x × (saved_of x ≡ bytes)
 pub record AreCorrupt (image : List ℕ) (plan : Plan) (bytes : List ℕ) : Type 0 where
   pub fine : bad_field (length image) plan ≡ None
   pub of_none : (x : ServerState) → IsBack image plan bytes x → ⊥
-
-abbrev pub IsRestored : (image : List ℕ) → Plan → (bytes : List ℕ) → Result ServerState RestoreError → Type 0
-IsRestored image plan bytes (Ok x) = IsBack image plan bytes x
-IsRestored image plan bytes (Err (error.BadPlan wrong)) = bad_field (length image) plan ≡ Some wrong
-IsRestored image plan bytes (Err error.Corrupt) = AreCorrupt image plan bytes
-IsRestored image plan bytes (Err error.Memory) = Unit {0}
 
 -- there is none, as at a new one, or the bytes are of none
 abbrev pub IsServerBack : (image : List ℕ) → Plan → (bytes : List ℕ) → Option ServerState → (old new answer : ℕ) → Type 0

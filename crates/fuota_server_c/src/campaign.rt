@@ -1,13 +1,10 @@
 //! A server that knows how many devices its plan has.
 
-use campaign_server::{
-    LastStatus, Plan, RestoreError, SavedServer, Server, ServerError, Spent, Stage,
-};
-use mc_frames::Frame;
-use package_grammar::Downlink;
-use std::alloc::Global;
+use crate::sent::{DownFields, put_down, put_or};
+use c_base::answer::{DONE, NOTHING, RANGE, REFUSED, SPENT};
+use campaign_server::{Server, Spent};
 use std::marker::Model;
-use wire_base::Refusal;
+use wire_base::MAX_PAYLOAD;
 
 /// The server of a campaign, with the number of its devices. Contracts see the server.
 #[derive(Drop)]
@@ -28,56 +25,23 @@ impl Model for Campaign {
 }
 
 impl Campaign {
-    ghost use Rattle.std.specs.Prelude.{◌≡◌, Some, true};
-    ghost use Rattle.image_slots.specs.Image.{is_image};
-    ghost use Rattle.campaign_server.specs.Server.{ledger, last_status};
-    ghost use Rattle.campaign_server.specs.Asking.{request_of};
-    ghost use Rattle.campaign_server.specs.Framing.{has_frame, frame_for};
+    ghost use Rattle.std.specs.Prelude.{◌≡◌, length};
     ghost use Rattle.campaign_server.specs.Uplinks.{uplink_step};
-    ghost use Rattle.campaign_server.specs.Fragments.{next_fragment, after_fragment, status_to_all, after_status_to_all};
-    ghost use Rattle.campaign_server.specs.Sent.{down_of, result_of, answer_of};
-    ghost use Rattle.campaign_server.specs.Saving.{saved_of};
-    ghost use Rattle.fuota_server_c.specs.Plan.{IsMade};
-    ghost use Rattle.fuota_server_c.specs.Saving.{IsRestored};
-    ghost use Rattle.fuota_server_c.specs.Sent.{has_device};
+    ghost use Rattle.fuota_server_c.specs.Sent.{SendsFragment, SendsStatus, TakesUplink, has_device};
 
-    /// Makes the server at the start of a campaign, or says why there is none.
-    pub fn new(alloc: Global, plan: Plan, image: &[u8]) -> Result<Campaign, ServerError>
-        requires { is_image image.now ≡ true }
-        ensures { IsMade image.now plan result }
+    /// The campaign of a server, and the number of its plan's devices.
+    pub fn of(server: Server, devices: usize) -> Campaign
+        requires { devices ≡ length server.plan.devices }
+        ensures { result ≡ server }
     {
-        let devices = plan.devices.len();
-        match Server::new(alloc, plan, image) {
-            Ok(server) => Ok(Campaign { server, devices }),
-            Err(ServerError::BadPlan(field)) => Err(ServerError::BadPlan(field)),
-            Err(ServerError::Memory) => Err(ServerError::Memory),
-        }
+        Campaign { server, devices }
     }
 
-    /// Restores the server that saved these bytes, or says why there is none.
-    pub fn restore(
-        alloc: Global,
-        plan: Plan,
-        image: &[u8],
-        saved: &[u8],
-    ) -> Result<Campaign, RestoreError>
-        requires { is_image image.now ≡ true }
-        ensures { IsRestored image.now plan saved.now result }
+    /// The server, for what only reads.
+    pub fn server(&self) -> &Server
+        ensures { result.now ≡ self.now }
     {
-        let devices = plan.devices.len();
-        match Server::restore(alloc, plan, image, saved) {
-            Ok(server) => Ok(Campaign { server, devices }),
-            Err(RestoreError::BadPlan(field)) => Err(RestoreError::BadPlan(field)),
-            Err(RestoreError::Corrupt) => Err(RestoreError::Corrupt),
-            Err(RestoreError::Memory) => Err(RestoreError::Memory),
-        }
-    }
-
-    /// Returns what it knows, as bytes that `restore` takes again.
-    pub fn save(&self) -> SavedServer
-        ensures { result.items ≡ saved_of self.now }
-    {
-        self.server.save()
+        &self.server
     }
 
     /// Says whether the plan has a device of this number.
@@ -87,73 +51,41 @@ impl Campaign {
         1 <= dev && dev as usize <= self.devices
     }
 
-    /// Returns what is asked of a device, by unicast; None exactly at updated and refused.
-    pub fn ask(&self, dev: u8) -> Option<Downlink>
-        requires { has_device self.now dev ≡ true }
-        ensures { result ≡ down_of (request_of self.now dev) }
+    /// Writes the next fragment to all devices.
+    #[tactic(auto, unfolding(campaign_server::specs::Fragments::after_fragment))]
+    pub fn next_fragment(&mut self, out: &mut DownFields) -> u8
+        ensures { SendsFragment self.old self.new out.old out.new result }
     {
-        self.server.ask(dev)
+        match self.server.next_fragment() {
+            Ok(down) => {
+                put_down(&down, out);
+                DONE
+            }
+            Err(Spent::Fragments) => NOTHING,
+            Err(Spent::Counts) => SPENT,
+        }
     }
 
-    /// Makes the next fragment to all devices.
-    pub fn next_fragment(&mut self) -> Result<Downlink, Spent>
-        ensures sent { result ≡ result_of (next_fragment self.old) }
-        ensures moved { self.new ≡ after_fragment self.old }
+    /// Writes a FragSessionStatusReq to all devices.
+    #[tactic(auto, unfolding(campaign_server::specs::Fragments::after_status_to_all))]
+    pub fn status_all(&mut self, out: &mut DownFields) -> u8
+        ensures { SendsStatus self.old self.new out.old out.new result }
     {
-        self.server.next_fragment()
+        put_or(self.server.status_all(), SPENT, out)
     }
 
-    /// Makes a FragSessionStatusReq to all devices.
-    pub fn status_all(&mut self) -> Option<Downlink>
-        ensures sent { result ≡ down_of (status_to_all self.old) }
-        ensures moved { self.new ≡ after_status_to_all self.old }
+    /// Takes an uplink of a device on a port, at `t` ms of GPS time, and writes the answer that is due.
+    #[tactic(auto, unfolding(campaign_server::specs::Uplinks::uplink_step, campaign_server::specs::Uplinks::read_uplink))]
+    pub fn uplink(&mut self, dev: u8, port: u8, payload: &[u8], t: u64, out: &mut DownFields) -> u8
+        ensures { TakesUplink self.old self.new dev payload.now
+            (uplink_step self.old dev port payload.now t) out.old out.new result }
     {
-        self.server.status_all()
-    }
-
-    /// Says whether a payload has a frame: it is to the plan's group, and its port isn't 0.
-    pub fn has_frame(&self, down: &Downlink) -> bool
-        ensures { result ≡ has_frame self.now.plan.group down.now }
-    {
-        self.server.has_frame(down)
-    }
-
-    /// Makes the frame of a payload to the plan's group.
-    pub fn frame(&self, down: &Downlink) -> Frame
-        requires { has_frame self.now.plan.group down.now ≡ true }
-        ensures { result.items ≡ frame_for self.now.plan.group down.now }
-    {
-        self.server.frame(down)
-    }
-
-    /// Takes an uplink of a device on a port, at `t` ms of GPS time.
-    pub fn uplink(
-        &mut self,
-        dev: u8,
-        port: u8,
-        payload: &[u8],
-        t: u64,
-    ) -> Result<Option<Downlink>, Refusal>
-        requires { has_device self.old dev ≡ true }
-        ensures moved { self.new ≡ (uplink_step self.old dev port payload.now t).server }
-        ensures answer { result ≡ answer_of (uplink_step self.old dev port payload.now t).answer }
-    {
-        self.server.uplink(dev, port, payload, t)
-    }
-
-    /// Returns what a device said last of the campaign's session; None where it said nothing.
-    pub fn last_status(&self, dev: u8) -> Option<LastStatus>
-        requires { has_device self.now dev ≡ true }
-        ensures { Some result ≡ last_status self.now dev }
-    {
-        self.server.last_status(dev)
-    }
-
-    /// Returns the stage of a device.
-    pub fn ledger(&self, dev: u8) -> Stage
-        requires { has_device self.now dev ≡ true }
-        ensures { Some result ≡ ledger self.now dev }
-    {
-        self.server.ledger(dev)
+        if !self.has_device(dev) || payload.len() > MAX_PAYLOAD {
+            return RANGE;
+        }
+        match self.server.uplink(dev, port, payload, t) {
+            Ok(answer) => put_or(answer, NOTHING, out),
+            Err(_) => REFUSED,
+        }
     }
 }

@@ -5,7 +5,6 @@ ghost use Rattle.wire_base.specs.Payload.{max_payload};
 ghost use Rattle.c_base.specs.Calls.{Tells};
 ghost use Rattle.fuota_server_c.specs.Sent.{GivesFrame, downlink_of, to_of};
 
-use crate::campaign::Campaign;
 use crate::sent::DownFields;
 use crate::server_handle::ServerHandle;
 use c_base::put_whole;
@@ -26,27 +25,17 @@ pub extern "C" fn fuota_server_frame(
     ensures frame { Tells handle.old.held (λ x. GivesFrame x down.now into.old into.new result)
         ((result ≡ 0) × (into.new ≡ into.old)) }
 {
-    match handle.take(alloc) {
-        None => 0,
-        Some(server) => {
-            let count = put_frame(&server, down, into);
-            *handle = ServerHandle::of(server);
-            count
-        }
-    }
-}
-
-fn put_frame(server: &Campaign, fields: &DownFields, into: &mut [u8]) -> usize
-    ensures { GivesFrame server.now fields.now into.old into.new result }
-{
-    if fields.length > MAX_PAYLOAD {
+    let Some(campaign) = handle.get_mut() else {
+        return 0;
+    };
+    if down.length > MAX_PAYLOAD {
         return 0;
     }
-    let down = downlink_of(fields);
-    if !server.has_frame(&down) {
+    let down = downlink_of(down);
+    if !campaign.server().has_frame(&down) {
         return 0;
     }
-    put_whole(server.frame(&down).as_slice(), into)
+    put_whole(campaign.server().frame(&down).as_slice(), into)
 }
 
 fn downlink_of(fields: &DownFields) -> Downlink

@@ -5,7 +5,6 @@ ghost use Rattle.c_base.specs.Answer.{no_object};
 ghost use Rattle.c_base.specs.Calls.{Tells};
 ghost use Rattle.fuota_server_c.specs.Sent.{TellsStatus, status_fields};
 
-use crate::campaign::Campaign;
 use crate::server_handle::ServerHandle;
 use c_base::answer::{DONE, NO_OBJECT, NOTHING, RANGE};
 use campaign_server::LastStatus;
@@ -33,23 +32,13 @@ pub extern "C" fn fuota_server_last_status(
     ensures status { Tells handle.old.held (λ x. TellsStatus x dev out.old out.new result)
         ((result ≡ no_object) × (out.new ≡ out.old)) }
 {
-    match handle.take(alloc) {
-        None => NO_OBJECT,
-        Some(server) => {
-            let answer = tell_status(&server, dev, out);
-            *handle = ServerHandle::of(server);
-            answer
-        }
-    }
-}
-
-fn tell_status(server: &Campaign, dev: u8, out: &mut StatusFields) -> u8
-    ensures { TellsStatus server.now dev out.old out.new result }
-{
-    if !server.has_device(dev) {
+    let Some(campaign) = handle.get_mut() else {
+        return NO_OBJECT;
+    };
+    if !campaign.has_device(dev) {
         return RANGE;
     }
-    match server.last_status(dev) {
+    match campaign.server().last_status(dev) {
         None => NOTHING,
         Some(status) => {
             *out = status_fields(status);

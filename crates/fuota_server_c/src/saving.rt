@@ -1,23 +1,21 @@
 //! A server outlasts its process: what it saves, and the server that is restored from it.
 
-ghost use Rattle.std.specs.Prelude.{◌≡◌, true};
-ghost use Rattle.core.specs.Result.{result_map_both};
-ghost use Rattle.image_slots.specs.Image.{is_image};
+ghost use Rattle.std.specs.Prelude.{◌≡◌};
 ghost use Rattle.campaign_server.specs.Saving.{saved_of};
 ghost use Rattle.c_base.specs.Bytes.{Whole};
 ghost use Rattle.c_base.specs.Calls.{Tells};
 ghost use Rattle.fuota_server_c.specs.Plan.{plan_of};
-ghost use Rattle.fuota_server_c.specs.Saving.{IsRestored, IsServerBack};
+ghost use Rattle.fuota_server_c.specs.Saving.{IsServerBack};
 
 use crate::campaign::Campaign;
 use crate::plan::{PlanDeviceFields, PlanFields, field_number, plan_of};
 use crate::server::fuota_server_free;
 use crate::server_handle::ServerHandle;
 use c_base::answer::{CORRUPT, DONE, NO_MEMORY, RANGE, REFUSED};
-use c_base::put_whole;
-use campaign_server::RestoreError;
+use c_base::{Handle, put_whole};
+use campaign_server::{RestoreError, Server};
 use image_slots::is_image;
-use std::alloc::{AllocError, Global};
+use std::alloc::Global;
 
 /// Copies what the server knows, as bytes for `fuota_server_restore`, to the front of `into`: 44 bytes and six for each device;
 /// returns their count, and 0 where they have no room, or without a server.
@@ -31,13 +29,9 @@ pub extern "C" fn fuota_server_save(
     ensures saved { Tells handle.old.held (λ x. Whole (saved_of x) into.old into.new result)
         ((result ≡ 0) × (into.new ≡ into.old)) }
 {
-    match handle.take(alloc) {
+    match handle.get_mut() {
         None => 0,
-        Some(server) => {
-            let count = put_whole(server.save().as_slice(), into);
-            *handle = ServerHandle::of(server);
-            count
-        }
+        Some(campaign) => put_whole(campaign.server().save().as_slice(), into),
     }
 }
 
@@ -60,40 +54,22 @@ pub extern "C" fn fuota_server_restore(
     if !is_image(image) {
         return REFUSED;
     }
-    match boxed(alloc, plan, devices, image, saved) {
-        Ok(server) => {
-            *handle = ServerHandle::of(server);
-            DONE
-        }
+    let Ok(plan) = plan_of(alloc, plan, devices) else {
+        return NO_MEMORY;
+    };
+    let count = plan.devices.len();
+    let server = match Server::restore(alloc, plan, image, saved) {
+        Ok(server) => server,
         Err(RestoreError::BadPlan(wrong)) => {
             *field = field_number(wrong);
-            RANGE
+            return RANGE;
         }
-        Err(RestoreError::Corrupt) => CORRUPT,
-        Err(RestoreError::Memory) => NO_MEMORY,
-    }
-}
-
-fn boxed(
-    alloc: Global,
-    fields: &PlanFields,
-    devices: &[PlanDeviceFields],
-    image: &[u8],
-    saved: &[u8],
-) -> Result<Box<Campaign>, RestoreError>
-    requires { is_image image.now ≡ true }
-    ensures { IsRestored image.now (plan_of fields.now devices.now) saved.now
-        (result_map_both (λ b. b.value) (λ e. e) result) }
-{
-    let plan = match plan_of(alloc, fields, devices) {
-        Ok(plan) => plan,
-        Err(AllocError) => return Err(RestoreError::Memory),
+        Err(RestoreError::Corrupt) => return CORRUPT,
+        Err(RestoreError::Memory) => return NO_MEMORY,
     };
-    match Campaign::restore(alloc, plan, image, saved) {
-        Err(error) => Err(error),
-        Ok(server) => match Box::new(alloc, server) {
-            Err(_) => Err(RestoreError::Memory),
-            Ok(server) => Ok(server),
-        },
-    }
+    let Ok(campaign) = Box::new(alloc, Campaign::of(server, count)) else {
+        return NO_MEMORY;
+    };
+    let _none = handle.replace(Handle::of(campaign)).into_box();
+    DONE
 }

@@ -1,7 +1,8 @@
 //! What a server sends.
 
-ghost use Rattle.fuota_server_c.specs.Sent.{IsDownOut};
+ghost use Rattle.fuota_server_c.specs.Sent.{IsDownOut, IsOut};
 
+use c_base::answer::DONE;
 use c_base::put_whole;
 use package_grammar::{Downlink, To};
 
@@ -30,6 +31,19 @@ pub fn put_down(down: &Downlink, out: &mut DownFields)
             out.is_group = true;
             out.addr = addr;
             out.count = count;
+        }
+    }
+}
+
+/// Writes a payload, where there is one: done, else the answer `none`.
+pub fn put_or(down: Option<Downlink>, none: u8, out: &mut DownFields) -> u8
+    ensures { IsOut down none out.old out.new result }
+{
+    match down {
+        None => none,
+        Some(down) => {
+            put_down(&down, out);
+            DONE
         }
     }
 }

@@ -1,24 +1,21 @@
 //! The calls of a server.
 
-ghost use Rattle.std.specs.Prelude.{◌≡◌, None, true};
-ghost use Rattle.core.specs.Result.{result_map_both};
-ghost use Rattle.image_slots.specs.Image.{is_image};
+ghost use Rattle.std.specs.Prelude.{◌≡◌, None};
 ghost use Rattle.campaign_server.specs.Uplinks.{uplink_step};
 ghost use Rattle.c_base.specs.Answer.{no_object};
 ghost use Rattle.c_base.specs.Calls.{Does, Tells};
-ghost use Rattle.fuota_server_c.specs.Plan.{IsMade, IsNewServer, plan_of};
-ghost use Rattle.fuota_server_c.specs.Sent.{SendsFragment, SendsStatus, Asks, TakesUplink, TellsStage, IsOut, fields_of, request_number};
+ghost use Rattle.fuota_server_c.specs.Plan.{IsNewServer, plan_of};
+ghost use Rattle.fuota_server_c.specs.Sent.{SendsFragment, SendsStatus, Asks, TakesUplink, TellsStage, fields_of, request_number};
 
 use crate::campaign::Campaign;
 use crate::plan::{PlanDeviceFields, PlanFields, field_number, plan_of};
-use crate::sent::{DownFields, put_down};
+use crate::sent::{DownFields, put_or};
 use crate::server_handle::ServerHandle;
-use c_base::answer::{DONE, NO_MEMORY, NO_OBJECT, NOTHING, RANGE, REFUSED, SPENT};
-use campaign_server::{Request, ServerError, Spent, Stage};
+use c_base::Handle;
+use c_base::answer::{DONE, NO_MEMORY, NO_OBJECT, NOTHING, RANGE, REFUSED};
+use campaign_server::{Request, Server, ServerError, Stage};
 use image_slots::is_image;
-use package_grammar::Downlink;
-use std::alloc::{AllocError, Global};
-use wire_base::MAX_PAYLOAD;
+use std::alloc::Global;
 
 /// The stage of a device: 0 at a request, 1 updated, 2 refused; the number of the request, and 0 at updated; the bits of the
 /// answer that refused, and else 0. Requests are 1 version, 2 group, 3 fragments, 4 window, 5 status, 6 image, 7 reboot, 8 check.
@@ -49,40 +46,23 @@ pub extern "C" fn fuota_server_new(
     if !is_image(image) {
         return REFUSED;
     }
-    match boxed(alloc, plan, devices, image) {
-        Ok(server) => {
-            *handle = ServerHandle::of(server);
-            DONE
-        }
+    let Ok(plan) = plan_of(alloc, plan, devices) else {
+        return NO_MEMORY;
+    };
+    let count = plan.devices.len();
+    let server = match Server::new(alloc, plan, image) {
+        Ok(server) => server,
         Err(ServerError::BadPlan(wrong)) => {
             *field = field_number(wrong);
-            RANGE
+            return RANGE;
         }
-        Err(ServerError::Memory) => NO_MEMORY,
-    }
-}
-
-fn boxed(
-    alloc: Global,
-    fields: &PlanFields,
-    devices: &[PlanDeviceFields],
-    image: &[u8],
-) -> Result<Box<Campaign>, ServerError>
-    requires { is_image image.now ≡ true }
-    ensures { IsMade image.now (plan_of fields.now devices.now)
-        (result_map_both (λ b. b.value) (λ e. e) result) }
-{
-    let plan = match plan_of(alloc, fields, devices) {
-        Ok(plan) => plan,
-        Err(AllocError) => return Err(ServerError::Memory),
+        Err(ServerError::Memory) => return NO_MEMORY,
     };
-    match Campaign::new(alloc, plan, image) {
-        Err(error) => Err(error),
-        Ok(server) => match Box::new(alloc, server) {
-            Err(_) => Err(ServerError::Memory),
-            Ok(server) => Ok(server),
-        },
-    }
+    let Ok(campaign) = Box::new(alloc, Campaign::of(server, count)) else {
+        return NO_MEMORY;
+    };
+    let _none = handle.replace(Handle::of(campaign)).into_box();
+    DONE
 }
 
 /// Frees the server, where there is one; the handle has none afterwards.
@@ -91,7 +71,7 @@ pub extern "C" fn fuota_server_free(handle: &mut ServerHandle, alloc: Global)
     ensures { handle.new.held ≡ None }
 {
     // It is dropped here, and its memory with it.
-    let _server = handle.take(alloc);
+    let _server = handle.replace(Handle::none(alloc)).into_box();
 }
 
 /// Writes the next fragment to all devices: done; nothing where all were sent; spent where the group's frame counts are used up.
@@ -104,26 +84,9 @@ pub extern "C" fn fuota_server_next_fragment(
     ensures { Does handle.old.held handle.new.held (λ x y. SendsFragment x y out.old out.new result)
         ((result ≡ no_object) × (out.new ≡ out.old)) }
 {
-    match handle.take(alloc) {
+    match handle.get_mut() {
         None => NO_OBJECT,
-        Some(mut server) => {
-            let answer = next_fragment(&mut server, out);
-            *handle = ServerHandle::of(server);
-            answer
-        }
-    }
-}
-
-fn next_fragment(server: &mut Campaign, out: &mut DownFields) -> u8
-    ensures { SendsFragment server.old server.new out.old out.new result }
-{
-    match server.next_fragment() {
-        Ok(down) => {
-            put_down(&down, out);
-            DONE
-        }
-        Err(Spent::Fragments) => NOTHING,
-        Err(Spent::Counts) => SPENT,
+        Some(campaign) => campaign.next_fragment(out),
     }
 }
 
@@ -138,25 +101,9 @@ pub extern "C" fn fuota_server_status_all(
     ensures { Does handle.old.held handle.new.held (λ x y. SendsStatus x y out.old out.new result)
         ((result ≡ no_object) × (out.new ≡ out.old)) }
 {
-    match handle.take(alloc) {
+    match handle.get_mut() {
         None => NO_OBJECT,
-        Some(mut server) => {
-            let answer = put_or(server.status_all(), SPENT, out);
-            *handle = ServerHandle::of(server);
-            answer
-        }
-    }
-}
-
-fn put_or(down: Option<Downlink>, none: u8, out: &mut DownFields) -> u8
-    ensures { IsOut down none out.old out.new result }
-{
-    match down {
-        None => none,
-        Some(down) => {
-            put_down(&down, out);
-            DONE
-        }
+        Some(campaign) => campaign.status_all(out),
     }
 }
 
@@ -173,23 +120,13 @@ pub extern "C" fn fuota_server_ask(
     ensures asks { Tells handle.old.held (λ x. Asks x dev out.old out.new result)
         ((result ≡ no_object) × (out.new ≡ out.old)) }
 {
-    match handle.take(alloc) {
-        None => NO_OBJECT,
-        Some(server) => {
-            let answer = ask(&server, dev, out);
-            *handle = ServerHandle::of(server);
-            answer
-        }
-    }
-}
-
-fn ask(server: &Campaign, dev: u8, out: &mut DownFields) -> u8
-    ensures { Asks server.now dev out.old out.new result }
-{
-    if !server.has_device(dev) {
+    let Some(campaign) = handle.get_mut() else {
+        return NO_OBJECT;
+    };
+    if !campaign.has_device(dev) {
         return RANGE;
     }
-    put_or(server.ask(dev), NOTHING, out)
+    put_or(campaign.server().ask(dev), NOTHING, out)
 }
 
 /// Takes an uplink of a device on a port, at `t` ms of GPS time, which moves its stage: done, with an answer to send; nothing,
@@ -210,33 +147,9 @@ pub extern "C" fn fuota_server_uplink(
         out.old out.new result)
         ((result ≡ no_object) × (out.new ≡ out.old)) }
 {
-    match handle.take(alloc) {
+    match handle.get_mut() {
         None => NO_OBJECT,
-        Some(mut server) => {
-            let answer = uplink(&mut server, dev, port, payload, t, out);
-            *handle = ServerHandle::of(server);
-            answer
-        }
-    }
-}
-
-fn uplink(
-    server: &mut Campaign,
-    dev: u8,
-    port: u8,
-    payload: &[u8],
-    t: u64,
-    out: &mut DownFields,
-) -> u8
-    ensures { TakesUplink server.old server.new dev payload.now
-        (uplink_step server.old dev port payload.now t) out.old out.new result }
-{
-    if !server.has_device(dev) || payload.len() > MAX_PAYLOAD {
-        return RANGE;
-    }
-    match server.uplink(dev, port, payload, t) {
-        Ok(answer) => put_or(answer, NOTHING, out),
-        Err(_) => REFUSED,
+        Some(campaign) => campaign.uplink(dev, port, payload, t, out),
     }
 }
 
@@ -252,23 +165,13 @@ pub extern "C" fn fuota_server_ledger(
     ensures stage { Tells handle.old.held (λ x. TellsStage x dev out.old out.new result)
         ((result ≡ no_object) × (out.new ≡ out.old)) }
 {
-    match handle.take(alloc) {
-        None => NO_OBJECT,
-        Some(server) => {
-            let answer = tell_stage(&server, dev, out);
-            *handle = ServerHandle::of(server);
-            answer
-        }
-    }
-}
-
-fn tell_stage(server: &Campaign, dev: u8, out: &mut StageFields) -> u8
-    ensures { TellsStage server.now dev out.old out.new result }
-{
-    if !server.has_device(dev) {
+    let Some(campaign) = handle.get_mut() else {
+        return NO_OBJECT;
+    };
+    if !campaign.has_device(dev) {
         return RANGE;
     }
-    *out = fields_of(server.ledger(dev));
+    *out = fields_of(campaign.server().ledger(dev));
     DONE
 }
 

@@ -1,13 +1,12 @@
 //! A server as C holds it.
 
-ghost use Rattle.std.specs.Prelude.{◌≡◌, Option, None, Some, option_map};
+ghost use Rattle.std.specs.Prelude.{◌≡◌, Option, Some, option_map};
 ghost use Rattle.campaign_server.specs.Server.{ServerState};
 
 use crate::campaign::Campaign;
 use c_base::Handle;
 use std::alloc::Global;
 use std::marker::Model;
-use std::mem::replace;
 
 /// The place of a server in memory, or none. To C it is one pointer.
 #[repr(C)]
@@ -24,48 +23,32 @@ impl Model for ServerHandle {
     ghost also_owns = { λ h. held_at server_row h.alloc h.at h.held };
 }
 
-impl Drop for ServerHandle {
-    /// Frees the server, where there is one.
-    fn drop(self) {
-        // dropped at the end of this block
-        let _server = self.into_handle().into_box();
-    }
-}
-
 impl ServerHandle {
-    /// Makes the handle of a server.
-    pub fn of(server: Box<Campaign>) -> ServerHandle
-        ensures { result.held ≡ Some server.value }
+    ghost use Rattle.std.specs.Borrow.{LendsIf, sem};
+    ghost use Rattle.fuota_server_c.specs.Held.{server_row};
+    ghost use Rattle.fuota_server_c.specs.contracts.server_handle.ServerHandle.{the_row};
+
+    /// Lends the server, where there is one.
+    pub fn get_mut(&mut self) -> Option<&mut Campaign>
+        ensures* lends { sem 𝓛 (LendsIf the_row server_row self.entry result
+            (λ w. record self.entry.now { held = Some w }) self.entry.now) }
+        ensures value { option_map (λ x. x.now) result ≡ self.old.held }
     {
-        ServerHandle::of_handle(Handle::of(server))
+        let at = self.at as *mut Campaign;
+        if at.is_null() {
+            return None;
+        }
+        Some(unsafe { &mut *at })
     }
 
-    /// Takes the server out of the handle, where there is one.
-    pub fn take(&mut self, alloc: Global) -> Option<Box<Campaign>>
-        ensures value { option_map (λ b. b.value) result ≡ self.old.held }
-        ensures none { self.new.held ≡ None }
-    {
-        let none = ServerHandle::of_handle(Handle::none(alloc));
-        replace(self, none).into_handle().into_box()
-    }
-
-    fn of_handle(handle: Handle<Campaign>) -> ServerHandle
-        ensures { result.held ≡ handle.held }
+    /// Puts what a handle has in the place of what this one has, which it returns.
+    pub fn replace(&mut self, handle: Handle<Campaign>) -> Handle<Campaign>
+        ensures old { result.held ≡ self.old.held }
+        ensures new { self.new.held ≡ handle.held }
     {
         let Handle { at, alloc } = handle;
-        ServerHandle {
-            at: at as *mut u8,
-            alloc,
-        }
-    }
-
-    fn into_handle(self) -> Handle<Campaign>
-        ensures { result.held ≡ self.held }
-    {
-        let ServerHandle { at, alloc } = self;
-        Handle {
-            at: at as *mut Campaign,
-            alloc,
-        }
+        let old = self.at as *mut Campaign;
+        self.at = at as *mut u8;
+        Handle { at: old, alloc }
     }
 }

@@ -1,10 +1,10 @@
 use Rattle.std.proofs.Common.{rules, refl, ap, Err, inl, inr}
-use Rattle.fuota_c.proofs.Decodings.{out_of, wanting, refused_at, ok_or_err, memory_or_refused}
+use Rattle.fuota_c.proofs.Decodings.{out_of, wanting, refused_at}
 use Rattle.fuota_c.proofs.decoding.decode_into.Goals as goal
 
 pub returns-then-len-text : goal.returns-then-len-text
 returns-then-len-text c = out_of _ c.in-Ok.lines.items _ _ _ _ _ c.in-Ok.ensures.text
-    (λ r is. ok_or_err _ _ ((c.in-Ok.ensures.refused r).1 is))
+    (λ r is. let wrong = (c.in-Ok.ensures.refused r).1 is in cc)
     (inr (inl (record {
       answered = refl;
       over = search rules;
@@ -14,7 +14,7 @@ returns-then-len-text c = out_of _ c.in-Ok.lines.items _ _ _ _ _ c.in-Ok.ensures
 
 pub returns-else-len-text : goal.returns-else-len-text
 returns-else-len-text c = out_of _ c.in-Ok.lines.items _ _ _ _ _ c.in-Ok.ensures.text
-    (λ r is. ok_or_err _ _ ((c.in-Ok.ensures.refused r).1 is))
+    (λ r is. let wrong = (c.in-Ok.ensures.refused r).1 is in cc)
     (inl (record {
       answered = refl;
       put = search rules;
@@ -23,7 +23,7 @@ returns-else-len-text c = out_of _ c.in-Ok.lines.items _ _ _ _ _ c.in-Ok.ensures
 
 pub returns-in-Err-Memory : goal.returns-in-Err-Memory
 returns-in-Err-Memory c = wanting _ _ _
-    (λ r is. memory_or_refused _ _ r c.in-Err-Memory.field-0-is ((c.in-Err-Memory.ensures.refused r).1 is))
+    (λ r is. let wrong = (c.in-Err-Memory.ensures.refused r).1 is in let memory = c.in-Err-Memory.field-0-is in cc)
 
 pub returns-in-Err-Refused : goal.returns-in-Err-Refused
 returns-in-Err-Refused c = refused_at _ _ _ _ c.in-Err-Refused.refusal

@@ -1,0 +1,9 @@
+-- `replace` puts the parts of a handle into the struct for C.
+use Rattle.c_base.proofs.Structs.{swaps}
+use Rattle.fuota_c.proofs.Forms.{receiver_form}
+use Rattle.fuota_c.specs.contracts.receiver_handle.ReceiverHandle.replace.Key.{name as #self}
+use Rattle.fuota_c.proofs.receiver_handle.ReceiverHandle.replace.Statement.{statement}
+use Rattle.fuota_c.proofs.receiver_handle.ReceiverHandle.replace.Code as code
+
+pub replace_spec : {M : Type 1} → statement M
+replace_spec 𝓤 𝓛 𝓜 𝓡 wired = swaps receiver_form 𝓤 𝓛 𝓜 𝓡 #self (code.unfolded 𝓤 𝓛.H 𝓜 𝓡 wired)
