@@ -1,5 +1,4 @@
 -- The worked campaigns come out so.
-use Rattle.std.proofs.Common.{refl}
 use Rattle.std.specs.Fmt.{digits}
 use Rattle.std.specs.Int.{int_wrap}
 use Rattle.hex.specs.Hex.{decode_pairs}
@@ -44,133 +43,24 @@ use Rattle.campaign_laws.specs.WorkedCampaigns.{AreReported, AreRefused, AreCaus
 
 pub refused_so : AreRefused
 unfolding campaign_of read_lines read_line cause_of form_cause in_range after_form with_device lines_of words_of word decimal_of key_of hex_number_of hex_bytes_of decode_pairs form_of next_fragment after_fragment status_to_all after_status_to_all request_of request_at radio brought fault_without_group after_due_reboot
-refused_so = record {
-  no_end = refl;
-  no_end_behind_events = refl;
-  no_form = refl;
-  order = refl;
-  behind_the_end = refl;
-  range = refl;
-  next_id = refl;
-  device = refl;
-  device_to_power = refl;
-  no_flash = refl;
-  fifth_flash = refl;
-  device_to_migrate = refl;
-  device_of_no_payload = refl;
-  payload = refl;
-  to_another = refl;
-  device_0 = refl;
-  other_flash = refl;
-  no_window = refl;
-  uplink = refl;
-  time = refl;
-  time_stays = refl;
-  limit = refl;
-  size = refl;
-  counts = refl;
-  no_port = refl;
-  long_word = refl;
-  strangers_device = refl;
-  odd_digits = refl;
-  long_payload = refl;
-  longest_payload = refl;
-  no_number = refl;
-  air_word = refl;
-  air_device = refl;
-  air_of_nothing = refl;
-  air_of_unicast = refl;
-  air_without_group = refl;
-  odd_bytes = refl;
-  bytes_word = refl;
-  bytes_device = refl;
-  long_bytes = refl;
-  due = refl;
-  not_due = refl;
-}
+refused_so = search
 
 pub reported_so : AreReported
 unfolding digits int_wrap campaign_of read_lines read_line cause_of form_cause in_range after_form with_device report_of device_parts view_of lines_of words_of word decimal_of key_of hex_number_of hex_bytes_of decode_pairs form_of next_fragment after_fragment status_to_all after_status_to_all request_of request_at is_for lowest_of highest_of further format_of firmware_of number_at uplink_step read_uplink reading_of read_from command_at named_at stop_at is_known sync.is_known sync.samples cast.is_known cast.samples clock_up clock_down firmware_up firmware_down fragment_up fragment_down group_up group_down stage_after_all stage_after time_answer delivery heard_delivery read_delivery message_delivery after_due_reboot after_migration after_raise after_swap hears is_after_uplink after_commands step command_step after_answers answer_step version_step waking time_asking radio brought fault_without_group
-reported_so = record {
-  clock = refl;
-  late = refl;
-  own_answer = refl;
-  version = refl;
-  numbers = refl;
-  power = refl;
-  others = refl;
-  ranged = refl;
-  formats = refl;
-  roots = refl;
-  group = refl;
-  strangers = refl;
-  strangers_bytes = refl;
-}
+reported_so = search
 
 pub causes_so : AreCauses
 unfolding campaign_of read_lines read_line cause_of form_cause in_range after_form with_device lines_of words_of word decimal_of key_of hex_number_of hex_bytes_of decode_pairs form_of next_fragment after_fragment status_to_all after_status_to_all request_of request_at
-causes_so = record {
-  order_before_range = refl;
-  range_before_device = refl;
-  device_before_unsent = refl;
-  longest_line = refl;
-  long_line = refl;
-  last_line = refl;
-  many_lines = refl;
-  most_fragments = refl;
-  more_fragments = refl;
-  more_of_two = refl;
-  group_twice = refl;
-  device_for_window = refl;
-  window_first = refl;
-  group_behind = refl;
-  event_first = refl;
-  device_behind = refl;
-  end_of_devices = refl;
-  nothing_behind = refl;
-}
+causes_so = search
 
 pub sessions_so : AreSessions
 unfolding digits int_wrap campaign_of read_lines read_line cause_of form_cause in_range after_form with_device report_of device_parts view_of lines_of words_of word decimal_of key_of hex_number_of hex_bytes_of decode_pairs form_of next_fragment after_fragment status_to_all after_status_to_all request_of request_at is_for lowest_of highest_of further format_of firmware_of number_at uplink_step read_uplink reading_of read_from command_at named_at stop_at is_known sync.is_known sync.samples cast.is_known cast.samples clock_up clock_down firmware_up firmware_down fragment_up fragment_down group_up group_down stage_after_all stage_after time_answer delivery heard_delivery read_delivery message_delivery after_due_reboot after_migration after_raise after_swap hears is_after_uplink after_commands step command_step after_answers answer_step version_step waking time_asking verdict missing shape_of shown_verdict shown_file seen_of setup_bits wrong_coding too_large other_descriptor has_room words_for new_session renewed after_setup same_setup lives excludes session_cause drop_cause followed session_after_fragment setup_step fragment_step heard_step
-sessions_so = record { two = refl }
+sessions_so = search
 
 pub counted_so : AreCounted
 unfolding digits totals_from with_counted seen_of view_of
-counted_so = record {
-  heard = refl;
-  nothing = refl;
-  complete = refl;
-  receiving = refl;
-  no_rows = refl;
-  conflict = refl;
-  no_session = refl;
-  recovers = refl;
-  recovers_none = refl;
-  recovers_receiving = refl;
-  recovers_no_rows = refl;
-  recovers_conflict = refl;
-  recovers_of_0 = refl;
-  recovers_of_nobody = refl;
-  heard_more = refl;
-  complete_more = refl;
-  one_more = refl;
-  no_more = refl;
-  updated_more = refl;
-  refused_no_more = refl;
-  all = refl;
-}
+counted_so = search
 
 pub planned_so : ArePlanned
 unfolding after_form
-planned_so = record {
-  image = refl;
-  group = refl;
-  window_c = refl;
-  window_b = refl;
-  image_section = refl;
-  group_section = refl;
-  window_section = refl;
-  device_section = refl;
-  configured = refl;
-  plain = refl;
-}
+planned_so = search

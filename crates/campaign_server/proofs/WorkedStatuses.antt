@@ -1,5 +1,4 @@
 -- The worked statuses, each by computing.
-use Rattle.std.proofs.Common.{refl}
 use Rattle.wire_base.specs.Numbers.{number_at}
 use Rattle.cast_wire.specs.Tests as cast
 use Rattle.sync_wire.specs.Tests as sync
@@ -15,15 +14,4 @@ use Rattle.campaign_server.specs.WorkedStatuses.{StatusSteps}
 
 pub statuses : StatusSteps
 unfolding reading_of read_from command_at named_at stop_at is_known sync.is_known sync.samples cast.is_known cast.samples clock_up firmware_up fragment_up group_up uplink_step read_uplink stage_after_all stage_after status_after_all time_answer is_for lowest_of highest_of further format_of firmware_of number_at
-statuses = record {
-  kept = refl;
-  early = refl;
-  whole = refl;
-  other_index = refl;
-  own_index = refl;
-  lower_index = refl;
-  last = refl;
-  other_command = refl;
-  refused = refl;
-  second = refl;
-}
+statuses = search

@@ -8,34 +8,7 @@ use Rattle.class_windows.specs.WorkedWindows.{WorkedWindows, WorkedSlots, Worked
 
 pub windows : WorkedWindows
 unfolding is_after_uplink is_running is_in_slot
-windows = record {
-  a_none = refl;
-  a_5000 = refl;
-  a_5999 = refl;
-  a_6000 = refl;
-  a_6099 = refl;
-  a_6100 = refl;
-  a_6999 = refl;
-  a_7000 = refl;
-  a_7099 = refl;
-  a_7100 = refl;
-  c_before = refl;
-  c_first = refl;
-  c_last = refl;
-  c_behind = refl;
-  c_round = refl;
-  c_behind_the_round = refl;
-  beacon = refl;
-  shortest = refl;
-  longest = refl;
-  slot_before = refl;
-  slot_first = refl;
-  slot_last = refl;
-  slot_behind = refl;
-  next_slot = refl;
-  last_slot = refl;
-  no_slot = refl;
-}
+windows = search
 
 -- Rand of each beacon that is worked out, by which its slots are known
 rand_1024 : rand 1024 0x11223344 ≡ 0x57 ∷ 0x45 ∷ 0xc3 ∷ 0x3b ∷ 0xcf ∷ 0x8f ∷ 0xa3 ∷ 0xba ∷ 0x09 ∷ 0xc5 ∷ 0x38 ∷ 0x5b ∷ 0x25 ∷ 0x08 ∷ 0x2c ∷ 0x4d ∷ []
@@ -56,40 +29,10 @@ rand_last = refl
 
 pub slots : WorkedSlots
 unfolding is_running is_in_slot is_ping_slot
-slots = record {
-  offset = rw rand_1024 refl;
-  next_offset = rw rand_1152 refl;
-  rare = rw rand_last refl;
-  b_open = rw rand_1024 refl;
-  b_before = refl;
-  b_last = rw rand_1152 refl;
-  b_behind_the_slot = rw rand_1152 refl;
-  b_behind = refl;
-  b_rare = rw rand_1024 refl;
-  b_rarely = rw rand_1024 refl;
-  b_rare_again = rw rand_1024 refl;
-  b_short = refl;
-  b_long = rw rand_1280 refl;
-}
+slots = search (rand_1024, rand_1152, rand_1280, rand_last)
 
 pub answers : WorkedAnswers
-answers = record {
-  none = refl;
-  group = refl;
-  lowest = refl;
-  too_low = refl;
-  highest = refl;
-  too_high = refl;
-  data_rate = refl;
-  all = refl;
-  ahead = refl;
-  past = refl;
-  round = refl;
-  far = refl;
-  too_far = refl;
-  answered = refl;
-  refused = refl;
-}
+answers = search
 
 -- at 2,810 ms and 2,840 ms after the beacon at 1,024 s
 pub ping_slot : is_ping_slot 1026810 0x11223344 0 ≡ true

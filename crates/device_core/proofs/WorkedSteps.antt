@@ -1,5 +1,6 @@
 -- The worked steps of a device, each by computing.
 use Rattle.std.proofs.Common.{[], ◌∷◌, Some, refl, ap}
+use Rattle.mc_group.specs.declared.group.Group.{Group}
 use Rattle.std.specs.Int.{int_wrap}
 use Rattle.wire_base.specs.Numbers.{number_at}
 use Rattle.sync_wire.specs.Tests as sync
@@ -17,7 +18,6 @@ use Rattle.image_slots.specs.Image.{format_of, further, is_image, is_unknown, im
 use Rattle.image_slots.specs.Slots.{after_offer, after_swap, after_delete, after_raise}
 use Rattle.class_windows.specs.Open.{is_after_uplink, is_running}
 use Rattle.class_windows.proofs.WorkedWindows.{ping_slot, no_ping_slot}
-use Rattle.mc_group.specs.declared.group.Group.{Group}
 use Rattle.mc_group.proofs.WorkedGroups.{setup}
 use Rattle.mc_keys.proofs.WorkedKeys.{session_keys as group_keys}
 use Rattle.device_core.proofs.WorkedRoots.{setup_1_1}
@@ -36,86 +36,23 @@ use Rattle.device_core.specs.WorkedSteps.{UplinkSteps, WeightSteps, ClockSteps, 
 
 pub uplinks : UplinkSteps
 unfolding int_wrap delivery heard_delivery read_delivery message_delivery after_due_reboot after_swap after_delete hears is_after_uplink is_running reading_of read_from command_at named_at is_known stop_at sync.is_known sync.samples cast.is_known cast.samples number_at clock_down firmware_down group_down fragment_down after_commands step command_step after_answers answer_step periodicity_step resync_step waking time_asking groups_step group_setup_step group_delete_step class_session_step version_step upgrade_step delete_image_step reboot_time_step countdown_step setup_step delete_step status_step fragment_step heard_step setup_bits wrong_coding too_large other_descriptor has_room words_for new_session after_setup renewed same_setup excludes cause_of drop_cause followed after_fragment shape_of shown_verdict seen_of status_by status_in status_of verdict missing
-uplinks = record {
-  groups = refl;
-  fragments = refl;
-  clock = refl;
-  firmware = refl;
-  at_once = refl;
-  last_due = refl;
-  made_last = refl;
-  eight = refl;
-  oldest = refl;
-  seven_left = refl;
-  taken_alone = refl;
-  nine = refl;
-  nothing_acted = refl;
-  held = refl;
-  no_room_to_wake = refl;
-  room_to_wake = refl;
-  time_answer = refl;
-  fragment = refl;
-  unknown = refl;
-  unread = refl;
-  full = refl;
-  refused = refl;
-  deaf = refl;
-  dropped = refl;
-  end = refl;
-}
+uplinks = search
 
 pub clock : ClockSteps
 unfolding int_wrap delivery heard_delivery read_delivery message_delivery after_due_reboot after_swap after_delete hears is_after_uplink is_running reading_of read_from command_at named_at is_known stop_at sync.is_known sync.samples cast.is_known cast.samples number_at clock_down firmware_down group_down fragment_down after_commands step command_step after_answers answer_step periodicity_step resync_step waking time_asking groups_step group_setup_step group_delete_step class_session_step version_step upgrade_step delete_image_step reboot_time_step countdown_step setup_step delete_step status_step fragment_step heard_step setup_bits wrong_coding too_large other_descriptor has_room words_for new_session after_setup renewed same_setup excludes cause_of drop_cause followed after_fragment shape_of shown_verdict seen_of status_by status_in status_of verdict missing
-clock = record {
-  wakes = refl;
-  woken = refl;
-  resyncs = refl;
-  none = refl;
-  mends = refl;
-  other_token = refl;
-  next_token = refl;
-  periodicity = refl;
-}
+clock = search
 
 pub statuses : StatusSteps
 unfolding int_wrap delivery heard_delivery read_delivery message_delivery after_due_reboot after_swap after_delete hears is_after_uplink is_running reading_of read_from command_at named_at is_known stop_at sync.is_known sync.samples cast.is_known cast.samples number_at clock_down firmware_down group_down fragment_down after_commands step command_step after_answers answer_step periodicity_step resync_step waking time_asking groups_step group_setup_step group_delete_step class_session_step version_step upgrade_step delete_image_step reboot_time_step countdown_step setup_step delete_step status_step fragment_step heard_step setup_bits wrong_coding too_large other_descriptor has_room words_for new_session after_setup renewed same_setup excludes cause_of drop_cause followed after_fragment shape_of shown_verdict seen_of status_by status_in status_of verdict missing verdict_now verdict_from first_verdict fitting_blocks all_blocks all_lists lacking missing_now missing_next gain excess direct gain_of direct_of numbers_of gain_of_lines is_sum sums fits equation_of line_of pieces_at xor_all xor_bytes
-statuses = record {
-  three = refl;
-  nothing_missing = refl;
-}
+statuses = search
 
 pub weights : WeightSteps
 unfolding int_wrap delivery heard_delivery read_delivery message_delivery after_due_reboot after_swap after_delete hears is_after_uplink is_running reading_of read_from command_at named_at is_known stop_at sync.is_known sync.samples cast.is_known cast.samples number_at clock_down firmware_down group_down fragment_down after_commands step command_step after_answers answer_step periodicity_step resync_step waking time_asking groups_step group_setup_step group_delete_step class_session_step version_step upgrade_step delete_image_step reboot_time_step countdown_step setup_step delete_step status_step fragment_step heard_step setup_bits wrong_coding too_large other_descriptor has_room words_for new_session after_setup renewed same_setup excludes cause_of drop_cause followed after_fragment shape_of shown_verdict seen_of status_by status_in status_of verdict missing
-weights = record {
-  firmware = refl;
-  clocks = refl;
-  fragments = refl;
-  groups = refl;
-}
+weights = search
 
 pub sessions : SessionSteps
 unfolding int_wrap delivery heard_delivery read_delivery message_delivery after_due_reboot after_swap after_delete hears is_after_uplink is_running reading_of read_from command_at named_at is_known stop_at sync.is_known sync.samples cast.is_known cast.samples number_at clock_down firmware_down group_down fragment_down after_commands step command_step after_answers answer_step periodicity_step resync_step waking time_asking groups_step group_setup_step group_delete_step class_session_step version_step upgrade_step delete_image_step reboot_time_step countdown_step setup_step delete_step status_step fragment_step heard_step setup_bits wrong_coding too_large other_descriptor has_room words_for new_session after_setup renewed same_setup excludes cause_of drop_cause followed after_fragment shape_of shown_verdict seen_of status_by status_in status_of verdict missing
-sessions = record {
-  setup = refl;
-  status = refl;
-  missing = refl;
-  other_index = refl;
-  many = refl;
-  at_3 = refl;
-  undelayed = refl;
-  deleted = refl;
-  no_fragments = refl;
-  all_padding = refl;
-  over_area = refl;
-  too_many = refl;
-  largest = refl;
-  too_large = refl;
-  coding = refl;
-  index = refl;
-  descriptor = refl;
-  rows = refl;
-  heard = refl;
-}
+sessions = search
 
 pub keys : KeySteps
 unfolding int_wrap delivery heard_delivery read_delivery message_delivery after_due_reboot after_swap after_delete hears is_after_uplink is_running reading_of read_from command_at named_at is_known stop_at sync.is_known sync.samples cast.is_known cast.samples number_at clock_down firmware_down group_down fragment_down after_commands step command_step after_answers answer_step periodicity_step resync_step waking time_asking groups_step group_setup_step group_delete_step class_session_step version_step upgrade_step delete_image_step reboot_time_step countdown_step setup_step delete_step status_step fragment_step heard_step setup_bits wrong_coding too_large other_descriptor has_room words_for new_session after_setup renewed same_setup excludes cause_of drop_cause followed after_fragment shape_of shown_verdict seen_of status_by status_in status_of verdict missing
@@ -127,162 +64,26 @@ keys = record {
 
 pub groups : GroupSteps
 unfolding int_wrap delivery heard_delivery read_delivery message_delivery after_due_reboot after_swap after_delete hears is_after_uplink is_running reading_of read_from command_at named_at is_known stop_at sync.is_known sync.samples cast.is_known cast.samples number_at clock_down firmware_down group_down fragment_down after_commands step command_step after_answers answer_step periodicity_step resync_step waking time_asking groups_step group_setup_step group_delete_step class_session_step version_step upgrade_step delete_image_step reboot_time_step countdown_step setup_step delete_step status_step fragment_step heard_step setup_bits wrong_coding too_large other_descriptor has_room words_for new_session after_setup renewed same_setup excludes cause_of drop_cause followed after_fragment shape_of shown_verdict seen_of status_by status_in status_of verdict missing
-groups = record {
-  set_up = refl;
-  told = refl;
-  asked_for = refl;
-  no_group = refl;
-  deleted = refl;
-  anew = refl;
-  id_error = refl;
-  next_id = refl;
-  start = refl;
-  to_start = refl;
-  errors = refl;
-  undefined = refl;
-  freq_error = refl;
-  dr_error = refl;
-  undefined_b = refl;
-  no_frequency = refl;
-  dr_error_b = refl;
-  requested = refl;
-  requested_b = refl;
-  replaced = refl;
-  refused = refl;
-  beacon = refl;
-  next_beacon = refl;
-  ends = refl;
-  stays = refl;
-  set_up_anew = refl;
-}
+groups = search
 
 pub hearing : HearingSteps
 unfolding int_wrap delivery heard_delivery read_delivery message_delivery after_due_reboot after_swap after_delete hears is_after_uplink is_running reading_of read_from command_at named_at is_known stop_at sync.is_known sync.samples cast.is_known cast.samples number_at clock_down firmware_down group_down fragment_down after_commands step command_step after_answers answer_step periodicity_step resync_step waking time_asking groups_step group_setup_step group_delete_step class_session_step version_step upgrade_step delete_image_step reboot_time_step countdown_step setup_step delete_step status_step fragment_step heard_step setup_bits wrong_coding too_large other_descriptor has_room words_for new_session after_setup renewed same_setup excludes cause_of drop_cause followed after_fragment shape_of shown_verdict seen_of status_by status_in status_of verdict missing
-hearing = record {
-  before = refl;
-  first = refl;
-  last = refl;
-  behind = refl;
-  fourth_second = refl;
-  fifth_second = refl;
-  max_count = refl;
-  other_group = refl;
-  own_clock = refl;
-  no_session = refl;
-  skipped = refl;
-  no_reboot = refl;
-  no_resync = refl;
-  no_delete = refl;
-  skipped_weight = refl;
-  of_group_2 = refl;
-  of_no_other = refl;
-  answered = refl;
-  slot = rw ping_slot refl;
-  own_slots = λ session periodicity device_ms addr. refl;
-  no_slot = rw no_ping_slot refl;
-  a_none = refl;
-  a_5999 = refl;
-  a_6000 = refl;
-  a_6100 = refl;
-  a_woken = refl;
-  a_7000 = refl;
-}
+hearing = search (ping_slot, no_ping_slot)
 
 pub firmware : FirmwareSteps
 unfolding after_migration after_raise image_state is_image is_unknown format_of further int_wrap delivery heard_delivery read_delivery message_delivery after_due_reboot after_swap after_delete hears is_after_uplink is_running reading_of read_from command_at named_at is_known stop_at sync.is_known sync.samples cast.is_known cast.samples number_at clock_down firmware_down group_down fragment_down after_commands step command_step after_answers answer_step periodicity_step resync_step waking time_asking groups_step group_setup_step group_delete_step class_session_step version_step upgrade_step delete_image_step reboot_time_step countdown_step setup_step delete_step status_step fragment_step heard_step setup_bits wrong_coding too_large other_descriptor has_room words_for new_session after_setup renewed same_setup excludes cause_of drop_cause followed after_fragment shape_of shown_verdict seen_of status_by status_in status_of verdict missing radio brought fault_without_group
-firmware = record {
-  version = refl;
-  no_next = refl;
-  corrupt = refl;
-  incompatible = refl;
-  valid = refl;
-  other = refl;
-  deleted = refl;
-  gone = refl;
-  time = refl;
-  same = refl;
-  now = refl;
-  countdown = refl;
-  same_count = refl;
-  round = refl;
-  cancelled = refl;
-  uncounted = refl;
-  at_once = refl;
-  old_version = refl;
-  new_version = refl;
-  first_formats = refl;
-  migrated = refl;
-  none_migrated = refl;
-  due = refl;
-  own_clock = refl;
-  cleared = refl;
-  cleared_of_none = refl;
-  early = refl;
-  due_unheard = refl;
-  due_refused = refl;
-  due_by_bytes = refl;
-  behind = refl;
-  too_far = refl;
-  ahead = refl;
-}
+firmware = search
 
 pub power : PowerSteps
 unfolding after_power after_offer view_of seen_of shape_of shown_verdict shown_file verdict verdict_now verdict_from first_verdict fitting_blocks all_blocks all_lists excess direct gain_of direct_of numbers_of gain_of_lines is_sum sums fits equation_of line_of pieces_at xor_all xor_bytes file_of gain
-power = record {
-  first_two = refl;
-  middle_two = refl;
-  last_two = refl;
-  was_whole = refl;
-  none = refl;
-  found = refl;
-}
+power = search
 
 pub alone : RadioSteps
 unfolding radio brought fault_without_group after_due_reboot
-alone = record {
-  short = refl;
-  long = refl;
-  header = refl;
-  address = refl;
-  no_group = refl;
-  opened = refl;
-  closed = refl;
-  counted = refl;
-}
+alone = search
 
 pub configs : ConfigSteps
-configs = record {
-  formats = refl;
-  no_format = refl;
-  most = refl;
-  rows = refl;
-  sessions = refl;
-  no_session = refl;
-  groups = refl;
-  no_group = refl;
-  no_area = refl;
-  least = refl;
-  area = refl;
-  last_moment = refl;
-  unheld = refl;
-  memory = refl;
-  flash = refl;
-  short_flash = refl;
-  short_span = refl;
-}
+configs = search
 
 pub worked_steps : WorkedSteps
-worked_steps = record {
-  uplinks = uplinks;
-  weights = weights;
-  clock = clock;
-  statuses = statuses;
-  sessions = sessions;
-  keys = keys;
-  groups = groups;
-  hearing = hearing;
-  firmware = firmware;
-  power = power;
-  alone = alone;
-  configs = configs;
-}
+worked_steps = search (uplinks, weights, clock, statuses, sessions, keys, groups, hearing, firmware, power, alone, configs)

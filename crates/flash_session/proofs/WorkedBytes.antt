@@ -22,14 +22,7 @@ use Rattle.flash_session.specs.WorkedBytes.{AreAt, place_2, content, WorkedSpell
 
 pub spellings : WorkedSpellings
 unfolding setup_bytes setup_from spelled
-spellings = record {
-  body = refl;
-  read = refl;
-  there = refl;
-  reserved = refl;
-  coding = refl;
-  entry = refl;
-}
+spellings = search
 
 are_at : (c : List ℕ) (at : ℕ) (piece : List ℕ) → SpelledAt c at piece → AreAt c at piece
 are_at c at [] lies = tt
@@ -130,10 +123,4 @@ places = record {
     both_used (suc (suc j)) le = absurd (omega (arith, le))
 
 pub calls : WorkedCalls
-calls = record {
-  first = refl;
-  second = refl;
-  none = refl;
-  room = refl;
-  no_room = refl;
-}
+calls = search

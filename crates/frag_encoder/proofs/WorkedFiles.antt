@@ -8,23 +8,7 @@ use Rattle.frag_encoder.specs.WorkedFiles.{WorkedFiles, WorkedSizes}
 
 pub files : WorkedFiles
 unfolding states_after parity_states modulus residues columns_drawn line_with line line_of pieces_at xor_bytes xor_all pieces_of data_of sums_of ones
-files = record {
-  whole = refl;
-  no_padding = refl;
-  uneven = refl;
-  two_lack = refl;
-  filled_up = refl;
-  full = refl;
-  block = refl;
-  first = refl;
-  last = refl;
-  coded = refl;
-  coded_with_padding = refl;
-  coded_of_two = refl;
-  coded_of_others = refl;
-  no_sum = refl;
-  sum_of_two = refl;
-}
+files = search
 
 pub sizes : WorkedSizes
 sizes = record {

@@ -7,48 +7,7 @@ use Rattle.fuota_run.specs.WorkedAnswers.{AreAnswers, AreInOrder}
 
 pub answers_are : AreAnswers
 unfolding digits decimal_of
-answers_are = record {
-  done = refl;
-  usage_code = refl;
-  image_code = refl;
-  script_code = refl;
-  read_code = refl;
-  write_code = refl;
-  memory_code = refl;
-  long_code = refl;
-  no_file_code = refl;
-  usage_said = refl;
-  image_said = refl;
-  fault_said = refl;
-  long_image = refl;
-  long_script = refl;
-  line_said = refl;
-  none_said = refl;
-  receiving_said = refl;
-  no_rows_said = refl;
-  conflict_said = refl;
-  file_said = refl;
-  no_file_said = refl;
-  text_said = refl;
-  refused_said = refl;
-  first_device = refl;
-  last_device = refl;
-  device_0 = refl;
-  device_65 = refl;
-  device_01 = refl;
-  no_decimal = refl;
-  first_port = refl;
-  last_port = refl;
-  port_199 = refl;
-  port_204 = refl;
-  last_seed = refl;
-  seed_beyond = refl;
-  no_seed = refl;
-  down = refl;
-  up = refl;
-  capital_up = refl;
-  no_direction = refl;
-}
+answers_are = search
 
 pub in_order : AreInOrder
 unfolding script_answer pair_script_answer campaign_answer campaigns_answer IsFileAnswer

@@ -1,5 +1,4 @@
 -- The worked script of two campaigns is so at its moments.
-use Rattle.std.proofs.Common.{refl}
 use Rattle.std.specs.Fmt.{digits}
 use Rattle.hex.specs.Hex.{decode_pairs}
 use Rattle.script_lines.specs.Lines.{lines_of, words_of, word}
@@ -15,4 +14,4 @@ use Rattle.isolation_laws.specs.WorkedMoments.{AreAtTheirMoments}
 
 pub worked : AreAtTheirMoments
 unfolding digits decode_pairs lines_of words_of word decimal_of key_of hex_number_of pair_form_of request_at request_of next_fragment after_fragment status_to_all after_status_to_all with_device after_form target_of after_target after_pair_line
-worked = record { of_b = refl; of_a = refl }
+worked = search

@@ -61,42 +61,12 @@ unfolding xtime sum_of_products times inverse affine_bit sub_byte sub_bytes shif
 second_block = refl
 
 pub frames : WorkedFrames
-frames = record {
-  frame = frame;
-  pending = pending;
-  long = long;
-  second_block = second_block;
-}
+frames = search (frame, pending, long, second_block)
 
 pub faults : WorkedFaults
 unfolding number_at fault_of
-faults = record {
-  none = rw code refl;
-  pending = rw pending_code refl;
-  bit_turned = rw code refl;
-  at_max = refl;
-  next_round = refl;
-  next_round_is_due = rw next_code refl;
-}
+faults = search (code, pending_code, next_code)
 
 pub order : WorkedOrder
 unfolding number_at fault_of fault_without_group
-order = record {
-  short = refl;
-  shortest = refl;
-  long = refl;
-  longest = refl;
-  ack = refl;
-  reserved = refl;
-  adr = refl;
-  header = refl;
-  address = refl;
-  port = refl;
-  count = refl;
-  short_alone = refl;
-  long_alone = refl;
-  longest_alone = refl;
-  pending_alone = refl;
-  header_alone = refl;
-  alone = refl;
-}
+order = search

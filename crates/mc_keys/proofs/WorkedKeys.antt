@@ -28,7 +28,4 @@ keys = record {
 
 pub session_keys : WorkedSessionKeys
 unfolding xtime sum_of_products times inverse affine_bit sub_byte sub_bytes shift_rows mixed mix_columns add_round_key next_words words_from after_round cipher
-session_keys = record {
-  app_s_key = refl;
-  net_s_key = refl;
-}
+session_keys = search

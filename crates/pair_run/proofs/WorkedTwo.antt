@@ -1,5 +1,4 @@
 -- The two worked campaigns come out so.
-use Rattle.std.proofs.Common.{refl}
 use Rattle.std.specs.Fmt.{digits}
 use Rattle.std.specs.Int.{int_wrap}
 use Rattle.hex.specs.Hex.{decode_pairs}
@@ -50,63 +49,12 @@ use Rattle.pair_run.specs.WorkedTwo.{ArePairsReported, ArePairsSessions, ArePair
 
 pub reported_so : ArePairsReported
 unfolding campaigns_of read_pair_lines read_pair_line after_pair_line pair_form_of common_cause pair_cause_of after_target target_of pair_parts pair_report_of digits int_wrap campaign_of read_lines read_line cause_of form_cause in_range after_form with_device report_of device_parts view_of lines_of words_of word decimal_of key_of hex_number_of hex_bytes_of decode_pairs form_of next_fragment after_fragment status_to_all after_status_to_all request_of request_at is_for lowest_of highest_of further format_of firmware_of number_at uplink_step read_uplink reading_of read_from command_at named_at stop_at is_known sync.is_known sync.samples cast.is_known cast.samples clock_up clock_down firmware_up firmware_down fragment_up fragment_down group_up group_down stage_after_all stage_after time_answer delivery heard_delivery read_delivery message_delivery after_due_reboot after_migration after_raise after_swap hears after_commands step command_step after_answers answer_step version_step waking time_asking radio brought fault_without_group drop_cause session_cause excludes fragment_step data_of pieces_of line_of pieces_at xor_bytes xor_all
-reported_so = record {
-  nobody = refl;
-  one_each = refl;
-  turned = refl;
-  crossed = refl;
-  one_time = refl;
-}
+reported_so = search
 
 pub sessions_so : ArePairsSessions
 unfolding campaigns_of read_pair_lines read_pair_line after_pair_line pair_form_of common_cause pair_cause_of after_target target_of pair_parts pair_report_of digits int_wrap campaign_of read_lines read_line cause_of form_cause in_range after_form with_device report_of device_parts view_of lines_of words_of word decimal_of key_of hex_number_of hex_bytes_of decode_pairs form_of next_fragment after_fragment status_to_all after_status_to_all request_of request_at is_for lowest_of highest_of further format_of firmware_of number_at uplink_step read_uplink reading_of read_from command_at named_at stop_at is_known sync.is_known sync.samples cast.is_known cast.samples clock_up clock_down firmware_up firmware_down fragment_up fragment_down group_up group_down stage_after_all stage_after time_answer delivery heard_delivery read_delivery message_delivery after_due_reboot after_migration after_raise after_swap hears after_commands step command_step after_answers answer_step version_step waking time_asking verdict missing shape_of shown_verdict shown_file seen_of setup_bits wrong_coding too_large other_descriptor has_room words_for new_session renewed after_setup same_setup lives excludes session_cause drop_cause followed session_after_fragment setup_step fragment_step heard_step
-sessions_so = record {
-  each = refl;
-}
+sessions_so = search
 
 pub refused_so : ArePairsRefused
 unfolding campaigns_of read_pair_lines read_pair_line after_pair_line pair_form_of common_cause pair_cause_of after_target target_of pair_parts pair_report_of digits int_wrap campaign_of read_lines read_line cause_of form_cause in_range after_form with_device report_of device_parts view_of lines_of words_of word decimal_of key_of hex_number_of hex_bytes_of decode_pairs form_of next_fragment after_fragment status_to_all after_status_to_all request_of request_at is_for lowest_of highest_of further format_of firmware_of number_at uplink_step read_uplink reading_of read_from command_at named_at stop_at is_known sync.is_known sync.samples cast.is_known cast.samples clock_up clock_down firmware_up firmware_down fragment_up fragment_down group_up group_down stage_after_all stage_after time_answer delivery heard_delivery read_delivery message_delivery after_due_reboot after_migration after_raise after_swap hears after_commands step command_step after_answers answer_step version_step waking time_asking radio brought fault_without_group
-refused_so = record {
-  no_end = refl;
-  one_campaign = refl;
-  no_letter = refl;
-  strangers = refl;
-  b_before_a = refl;
-  a_behind_b = refl;
-  no_plan_of_b = refl;
-  no_device_of_b = refl;
-  no_device_of_a = refl;
-  device_behind_an_event = refl;
-  behind_the_end = refl;
-  b_before_a_window = refl;
-  no_window_of_b = refl;
-  order_before_range = refl;
-  index = refl;
-  same_index = refl;
-  next_id = refl;
-  same_group = refl;
-  same_address = refl;
-  other_group = refl;
-  group_of_b_alone = refl;
-  range_before_device = refl;
-  device = refl;
-  device_of_no_payload = refl;
-  fifth_flash = refl;
-  payload = refl;
-  of_the_other = refl;
-  uplink_of_the_other = refl;
-  sent_to_one = refl;
-  no_frame = refl;
-  time = refl;
-  of_both = refl;
-  of_both_turned = refl;
-  of_a = refl;
-  of_b = refl;
-  of_none = refl;
-  fragments_of_a = refl;
-  long_line = refl;
-  longest_line = refl;
-  last_line = refl;
-  many_lines = refl;
-  many_lines_of_b = refl;
-}
+refused_so = search

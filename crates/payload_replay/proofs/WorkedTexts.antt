@@ -1,5 +1,6 @@
 -- Texts worked out.
-use Rattle.std.proofs.Common.{refl, ap, [], Ok}
+use Rattle.std.proofs.Common.{[], codes, Ok, refl, ap}
+use Rattle.wire_base.specs.declared.refusal.Direction.TheVariants.{Down}
 use Rattle.std.specs.Fmt.{digits}
 use Rattle.std.specs.Int.{int_wrap}
 use Rattle.hex.specs.Hex.{encode_with, decode_pairs}
@@ -20,43 +21,14 @@ use Rattle.capture_read.proofs.WorkedEntries as entries
 use Rattle.payload_replay.specs.Capture.{entry_by, line_entry, after_entry, capture_text}
 use Rattle.payload_replay.specs.WorkedTexts.{AreTexts, AreCaptures}
 
+-- the text begins as it is
+no_lines : Decodes 202 Down [] (Ok (codes "end\n"))
+unfolding Decodes TakesLines lines_of
+no_lines = (Ok [], refl, refl)
+
 pub texts_are : AreTexts
 unfolding Decodes TakesLines lines_of digits encode_with decode_pairs verdict missing shape_of shown_verdict shown_file seen_of view_of words_of word decimal_of payload_of payload_by commands_text rows_of replay_text
-texts_are = record {
-  port = refl;
-  unknown = refl;
-  short = refl;
-  long = refl;
-  none = refl;
-  commands = refl;
-  numbered = refl;
-  no_lines = (Ok [], refl, refl);
-  payload = refl;
-  empty = refl;
-  either_case = refl;
-  odd = refl;
-  no_digit = refl;
-  last_line = refl;
-  many_lines = refl;
-  longest = refl;
-  longer = refl;
-  longest_line = refl;
-  long_line = refl;
-  rows = refl;
-  many_rows = refl;
-  other_header = refl;
-  no_decimal = refl;
-  short_header = refl;
-  longer_header = refl;
-  no_header = refl;
-  no_rows = refl;
-  longest_header = refl;
-  long_header = refl;
-  header_of_capture = refl;
-  hearer = refl;
-  replay = refl;
-  other_replay = refl;
-}
+texts_are = search no_lines
 
 pub captures_are : AreCaptures
 unfolding digits int_wrap encode_with verdict missing shape_of shown_verdict shown_file seen_of view_of words_of word decimal_of commands_text rows_of replay_text capture_text after_entry line_entry reading_of read_from command_at named_at is_known stop_at sync.is_known sync.samples clock_down number_at

@@ -42,11 +42,4 @@ ranges = record {
 
 pub rooms : WorkedRooms
 unfolding setup_bits wrong_coding too_large other_descriptor has_room words_for
-rooms = record {
-  columns = refl;
-  more_columns = refl;
-  bytes = refl;
-  more_bytes = refl;
-  range = refl;
-  less_range = refl;
-}
+rooms = search
