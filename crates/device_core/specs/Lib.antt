@@ -10,6 +10,7 @@ pub mod Step
 pub mod Deliver
 pub mod Radio
 pub mod WholeFiles
+pub mod WorkedConfig
 pub mod WorkedSteps
 pub mod Sendable
 pub mod HeldSessions

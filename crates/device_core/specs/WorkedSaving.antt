@@ -1,32 +1,19 @@
 -- Saved devices worked out, each byte from the table of fields; the digests from outside.
 use Rattle.std.specs.Prelude.{◌≡◌, [], ◌∷◌, ◌++◌, true, false, replicate, Some, None}
-use Rattle.mc_keys.specs.declared.root_kind.RootKind.TheVariants.{V10, V11}
+use Rattle.mc_keys.specs.declared.root_kind.RootKind.TheVariants.{V11}
 use Rattle.image_slots.specs.declared.view.ImageState.TheVariants as image
 use Rattle.session_store.specs.declared.state.CompleteFlags.{CompleteFlags}
 use Rattle.session_store.specs.CompleteFlags.{none_complete}
 use Rattle.device_core.specs.declared.class_session.Kind.TheVariants.{ClassC, ClassB}
 use Rattle.device_core.specs.declared.config.Class.TheVariants as class
 use Rattle.device_core.specs.declared.config.DeviceConfig.{DeviceConfig}
+use Rattle.device_core.specs.WorkedConfig.{worked_config}
 use Rattle.device_core.specs.Device.{DeviceState, first_device}
 use Rattle.device_core.specs.SessionTable.{no_sessions}
 use Rattle.device_core.specs.Saving.{session_bytes, slots_bytes, config_bytes, state_bytes, saved_of}
 
 abbrev pub plain_config : DeviceConfig
-plain_config = record {
-  class = class.A;
-  hw = 1;
-  formats = 1;
-  rows = 0;
-  offset = 0;
-  key = replicate 16 0;
-  root = V10;
-  descriptor = None;
-  sessions = 1;
-  groups = 1;
-  area = 1024;
-  held = false;
-  span = 0;
-}
+plain_config = record (worked_config class.A 0) { formats = 1; rows = 0; sessions = 1; groups = 1; area = 1024 }
 
 -- fields that differ in each byte
 abbrev pub full_config : DeviceConfig

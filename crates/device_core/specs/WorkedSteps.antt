@@ -2,7 +2,7 @@
 use Rattle.std.specs.Prelude.{◌≡◌, ℕ, ◌-◌, ◌^◌, true, false, List, [], ◌∷◌, ◌++◌, length, map, drop, Option, Some, None, Ok, Err, replicate}
 use Rattle.wire_base.specs.declared.refusal.Why.TheVariants as why
 use Rattle.package_grammar.specs.declared.downlink.To.TheVariants.{Unicast, Group}
-use Rattle.mc_keys.specs.declared.root_kind.RootKind.TheVariants.{V10, V11}
+use Rattle.mc_keys.specs.declared.root_kind.RootKind.TheVariants.{V11}
 use Rattle.mc_keys.specs.WorkedKeys.{worked_gen_app_key, worked_wrapped, worked_key}
 use Rattle.frag_session.specs.declared.answers.Via.TheVariants as via
 use Rattle.frag_session.specs.declared.answers.StatusAns.{StatusAns}
@@ -18,9 +18,7 @@ use Rattle.device_core.specs.Power.{after_power}
 use Rattle.device_core.specs.declared.arrival.Arrival.{Arrival}
 use Rattle.device_core.specs.declared.class_session.ClassSession.{ClassSession}
 use Rattle.device_core.specs.declared.class_session.Kind.TheVariants.{ClassC, ClassB}
-use Rattle.device_core.specs.declared.config.Class.{Class}
 use Rattle.device_core.specs.declared.config.Class.TheVariants.{A, C}
-use Rattle.device_core.specs.declared.config.DeviceConfig.{DeviceConfig}
 use Rattle.device_core.specs.declared.uplink.Uplink.{Uplink}
 use Rattle.device_core.specs.declared.delivered.Delivered.{Delivered}
 use Rattle.device_core.specs.declared.delivered.Delivered.TheVariants.{Deaf, Refused, OutboxFull, Done}
@@ -31,6 +29,7 @@ use Rattle.device_core.specs.HeldDevice.{can_reserve}
 use Rattle.device_core.specs.declared.uplink.Answer.{Answer}
 use Rattle.sync_wire.specs.declared.cmd.Cmd.TheVariants.{PackageVersionAns}
 use Rattle.package_grammar.specs.declared.command.Command.TheVariants.{Sync}
+use Rattle.device_core.specs.WorkedConfig.{worked_config}
 use Rattle.device_core.specs.Answers.{uplink_of, after_answers}
 use Rattle.device_core.specs.Fragments.{setup_of, answer_delay, status_answers}
 use Rattle.class_windows.specs.Open.{is_open_b}
@@ -39,24 +38,6 @@ use Rattle.device_core.specs.Firmware.{is_reached, after_migration}
 use Rattle.device_core.specs.Deliver.{Outcome, delivery, waking, taking}
 
 -- ---- a device, and what comes to it
-
--- a device of hardware 1, whose clock is so many seconds ahead
-abbrev pub worked_config : Class → (offset : ℕ) → DeviceConfig
-worked_config class offset = record {
-  class = class;
-  hw = 1;
-  rows = 2;
-  offset = offset;
-  key = replicate 16 0;
-  root = V10;
-  formats = 2;
-  descriptor = None;
-  sessions = 4;
-  groups = 4;
-  area = 262382;
-  held = false;
-  span = 0;
-}
 
 -- one of class C, whose clock is right
 abbrev pub fresh : DeviceState

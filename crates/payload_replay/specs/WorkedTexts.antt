@@ -9,9 +9,9 @@ use Rattle.sync_wire.specs.declared.cmd.Cmd.TheVariants.{AppTimeAns, DevVersionR
 use Rattle.cast_wire.specs.declared.cmd.Cmd.TheVariants.{DataFragment}
 use Rattle.package_grammar.specs.declared.command.Command.TheVariants.{Sync, Cast}
 use Rattle.frag_session.specs.Session.{Session}
-use Rattle.mc_keys.specs.declared.root_kind.RootKind.TheVariants.{V10}
 use Rattle.device_core.specs.declared.config.Class.TheVariants as class
 use Rattle.device_core.specs.Device.{DeviceState}
+use Rattle.device_core.specs.WorkedConfig.{worked_config}
 use Rattle.report_lines.specs.declared.faults.LineWhy.TheVariants as why
 use Rattle.payload_replay.specs.PayloadLines.{payload_of}
 use Rattle.payload_replay.specs.Decode.{payload_text, numbered_text, Decodes}
@@ -77,21 +77,7 @@ pub record AreTexts : Type 0 where
   pub long_header : header_rows (replicate 601 114) ≡ Err why.Limit
   pub header_of_capture : header_rows (codes "capture 1 2") ≡ Err why.Syntax
   -- the device that hears the payloads
-  pub hearer : (replay_device 7).config ≡ record {
-    class = class.C;
-    hw = 0;
-    formats = 2;
-    rows = 7;
-    offset = 0;
-    key = replicate 16 0;
-    root = V10;
-    descriptor = None;
-    sessions = 4;
-    groups = 4;
-    area = 262382;
-    held = false;
-    span = 0;
-  }
+  pub hearer : (replay_device 7).config ≡ record (worked_config class.C 0) { hw = 0; rows = 7 }
   -- two sessions, the counts before them
   pub replay : replay_text worked_device ≡ codes
       "fuota replay 1\ncounts deaf 0 refused 1 full 2 dropped 3\nsession 0 received 0 missing 2 receiving\nsession 2 received 0 missing 1 receiving\nend\n"

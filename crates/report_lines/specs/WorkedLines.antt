@@ -1,36 +1,22 @@
 -- Lines worked out: each word of a report, and of a refused line, with numbers that differ.
-use Rattle.std.specs.Prelude.{◌≡◌, ℕ, true, false, [], ◌∷◌, replicate, codes, None, Some}
+use Rattle.std.specs.Prelude.{◌≡◌, ℕ, true, false, [], ◌∷◌, codes, None, Some}
 use Rattle.frag_session.specs.declared.answers.Verdict.{Verdict}
 use Rattle.frag_session.specs.declared.answers.Verdict.TheVariants as verdict
 use Rattle.frag_session.specs.Session.{Seen}
 use Rattle.image_slots.specs.declared.view.ImageState.TheVariants as next
-use Rattle.mc_keys.specs.declared.root_kind.RootKind.TheVariants.{V10}
 use Rattle.device_core.specs.declared.config.Class.TheVariants as class
 use Rattle.device_core.specs.Device.{DeviceState, first_device}
+use Rattle.device_core.specs.WorkedConfig.{worked_config}
 use Rattle.campaign_server.specs.declared.stage.Stage.TheVariants.{At, Updated, Refused}
 use Rattle.campaign_server.specs.declared.stage.Request.TheVariants as request
 use Rattle.report_lines.specs.declared.faults.LineWhy.TheVariants as why
 use Rattle.report_lines.specs.Faults.{fault_line}
 use Rattle.report_lines.specs.Devices.{stage_text, next_text, standing_line, device_line, counts_line}
-use Rattle.report_lines.specs.Sessions.{ToldFile, same, whole, same_word, verdict_text, session_text, session_line}
+use Rattle.report_lines.specs.Sessions.{same, whole, same_word, verdict_text, session_text, session_line}
 
 -- a device whose numbers all differ: its clock is 7 s ahead and its next token 3, it runs version 2 and version 5 is next
 abbrev pub worked_device : DeviceState
-worked_device = record (first_device (record {
-  class = class.C;
-  hw = 1;
-  formats = 2;
-  rows = 4;
-  offset = 0;
-  key = replicate 16 0;
-  root = V10;
-  descriptor = None;
-  sessions = 4;
-  groups = 4;
-  area = 100;
-  held = false;
-  span = 0;
-})) {
+worked_device = record (first_device (record (worked_config class.C 0) { rows = 4; area = 100 })) {
   clock = record { offset = 7; token = 3 };
   slots = record { formats = 2; version = 2; running = 9 ∷ []; next = next.Valid 5; next_file = 8 ∷ [] };
 }
