@@ -4,24 +4,4 @@
 #![tactic(auto)]
 
 #[cfg(test)]
-mod aes;
-#[cfg(test)]
-mod cast;
-#[cfg(test)]
-mod clock;
-#[cfg(test)]
-mod frames;
-#[cfg(test)]
-mod grammar;
-#[cfg(test)]
-mod groups;
-#[cfg(test)]
-mod keys;
-#[cfg(test)]
-mod lines;
-#[cfg(test)]
-mod numbers;
-#[cfg(test)]
-mod sync;
-#[cfg(test)]
-mod windows;
+mod tests;

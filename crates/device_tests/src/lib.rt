@@ -3,14 +3,4 @@
 #![tactic(auto)]
 
 #[cfg(test)]
-mod common;
-#[cfg(test)]
-mod device;
-#[cfg(test)]
-mod power;
-#[cfg(test)]
-mod samples;
-#[cfg(test)]
-mod saving;
-#[cfg(test)]
-mod server;
+mod tests;

@@ -3,12 +3,4 @@
 #![tactic(auto)]
 
 #[cfg(test)]
-mod bench;
-#[cfg(test)]
-mod counted;
-#[cfg(test)]
-mod cut;
-#[cfg(test)]
-mod letter;
-#[cfg(test)]
-mod part;
+mod tests;

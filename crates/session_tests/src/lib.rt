@@ -3,24 +3,4 @@
 #![tactic(auto)]
 
 #[cfg(test)]
-mod arena;
-#[cfg(test)]
-mod common;
-#[cfg(test)]
-mod encoder;
-#[cfg(test)]
-mod flash;
-#[cfg(test)]
-mod images;
-#[cfg(test)]
-mod lines;
-#[cfg(test)]
-mod plain;
-#[cfg(test)]
-mod slots;
-#[cfg(test)]
-mod solver;
-#[cfg(test)]
-mod store;
-#[cfg(test)]
-mod sums;
+mod tests;

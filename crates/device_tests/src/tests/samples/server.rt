@@ -2,7 +2,7 @@
 
 ghost use Rattle.std.specs.Prelude.{◌≡◌, length};
 
-use crate::common::IMAGE;
+use crate::tests::common::IMAGE;
 use campaign_server::{PlanDevice, PlanGroup, Server};
 use image_slots::is_image;
 use mc_keys::RootKind;

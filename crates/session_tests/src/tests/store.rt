@@ -2,7 +2,7 @@
 
 ghost use Rattle.std.specs.Prelude.{◌*◌, ◌≤◌};
 
-use crate::common::SETUP;
+use crate::tests::common::SETUP;
 use flash_session::{Flash, MemFlash, StopFlash};
 use frag_session::{Limits, SetupReq, Verdict, Via};
 use session_store::{Layout, SessionStore};

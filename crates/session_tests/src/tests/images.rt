@@ -2,7 +2,7 @@
 
 ghost use Rattle.std.specs.Prelude.{◌≡◌, ◌<◌};
 
-use crate::common::IMAGE;
+use crate::tests::common::IMAGE;
 use image_slots::*;
 use std::alloc::Global;
 use std::process::Abort;

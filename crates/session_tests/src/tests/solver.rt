@@ -1,6 +1,6 @@
 //! Solvers over a few pieces of one byte, by worked rows and against plain sums of lines, and over pieces of many sizes.
 
-use crate::plain::excess;
+use crate::tests::plain::excess;
 use frag_model::gains::{plain_gain, plain_line_of};
 use frag_model::lines::MAX_PARITY_INDEX;
 use parity_lines::line_uncounted;

@@ -1,6 +1,6 @@
 //! What a device answers, payload by payload.
 
-use crate::common::{CONFIG, IMAGE, no_flash};
+use crate::tests::common::{CONFIG, IMAGE, no_flash};
 use device_core::*;
 use flash_session::CellFlash;
 use image_slots::ImageState;

@@ -2,7 +2,7 @@
 
 ghost use Rattle.std.specs.Prelude.{◌≤◌};
 
-use crate::common::IMAGE;
+use crate::tests::common::IMAGE;
 use arrayvec::ArrayVec;
 use frag_encoder::{Encoder, EncoderError};
 use frag_model::lines::{MAX_PARITY_INDEX, plain_line};

@@ -2,7 +2,7 @@
 
 ghost use Rattle.std.specs.Prelude.{◌≡◌, length};
 
-use crate::common::{CONFIG, IMAGE, no_flash};
+use crate::tests::common::{CONFIG, IMAGE, no_flash};
 use campaign_server::{
     Field, Kind, Plan, PlanDevice, PlanGroup, PlanWindow, Request, RestoreError, Server,
     ServerError, Spent, Stage,

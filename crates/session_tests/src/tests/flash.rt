@@ -3,7 +3,7 @@
 ghost use Rattle.std.specs.Prelude.{◌≡◌, ◌+◌, ◌≤◌, IfOk};
 ghost use Rattle.std.specs.Bool.{OnTrue};
 
-use crate::common::{LIMITS, SETUP};
+use crate::tests::common::{LIMITS, SETUP};
 use flash_session::{CellFlash, Flash, Held, MemFlash, OpenFault, StopFlash};
 use frag_session::{Cause, Heard, Idle, News, SetupReq, Verdict, Via};
 use row_elimination::Solver;

@@ -4,8 +4,8 @@ ghost use Rattle.std.specs.Prelude.{◌≡◌, ◌≤◌};
 ghost use Rattle.sample_receiver.specs.HeldReceiver.{extent};
 ghost use Rattle.sample_flash_receiver.specs.HeldReceiver.{span, IsReceiver};
 
-use crate::bench::{Stand, empty, encoder, flash_over, is_whole, payload, request};
-use crate::part::{Tear, TestPart};
+use crate::tests::bench::{Stand, empty, encoder, flash_over, is_whole, payload, request};
+use crate::tests::part::{Tear, TestPart};
 use frag_encoder::Encoder;
 use frag_session::Via;
 use sample_flash_receiver::{Arena, Receiver, hear, set_up, start};

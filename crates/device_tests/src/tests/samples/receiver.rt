@@ -1,24 +1,11 @@
 //! A receiver, by payloads that were worked out by hand.
 
+use super::{FILE, SETUP};
 use frag_session::SetupReq;
 use sample_receiver::{Receiver, file, hear, receiver, set_up};
 use std::alloc::Global;
 use std::process::Abort;
 use std::test::*;
-
-/// A file of 5 bytes in 3 pieces of 2, the last of them with one byte of padding.
-const SETUP: SetupReq = SetupReq {
-    index: 0,
-    mask: 0,
-    nb_frag: 3,
-    frag_size: 2,
-    algo: 0,
-    delay: 0,
-    padding: 1,
-    descriptor: 7,
-};
-
-static FILE: [u8; 5] = [0x11, 0x22, 0x33, 0x44, 0x55];
 
 fn begun(rt: &impl Abort, alloc: Global) -> Receiver {
     match receiver(alloc) {

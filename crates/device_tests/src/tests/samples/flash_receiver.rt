@@ -5,7 +5,7 @@ ghost use Rattle.wire_base.specs.Payload.{max_payload};
 ghost use Rattle.sample_receiver.specs.HeldReceiver.{extent};
 ghost use Rattle.sample_flash_receiver.specs.HeldReceiver.{IsReceiver};
 
-use frag_session::SetupReq;
+use super::{FILE, SETUP};
 use sample_flash_receiver::{
     Arena, Driver, Part, Receiver, SPAN, arena, file, hear, set_up, start,
 };
@@ -71,20 +71,6 @@ impl Driver for Ram {
         self.passes()
     }
 }
-
-/// A file of 5 bytes in 3 pieces of 2, the last of them with one byte of padding.
-const SETUP: SetupReq = SetupReq {
-    index: 0,
-    mask: 0,
-    nb_frag: 3,
-    frag_size: 2,
-    algo: 0,
-    delay: 0,
-    padding: 1,
-    descriptor: 7,
-};
-
-static FILE: [u8; 5] = [0x11, 0x22, 0x33, 0x44, 0x55];
 
 /// Pieces 1 and 3 of session 0, piece 2 of session 1, no fragment, and coded fragment 1, in whose line piece 2 is.
 static PIECE_ONE: [u8; 5] = [0x08, 0x01, 0x00, 0x11, 0x22];

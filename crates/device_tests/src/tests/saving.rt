@@ -2,11 +2,11 @@
 
 ghost use Rattle.std.specs.Prelude.{◌≤◌, length};
 
-use crate::common::{IMAGE, no_flash};
-use device_core::{Class, Delivered, Device, DeviceConfig, RestoreError, SavedDevice};
+use crate::tests::common;
+use crate::tests::common::{IMAGE, no_flash};
+use device_core::{Delivered, Device, DeviceConfig, RestoreError, SavedDevice};
 use flash_session::CellFlash;
 use image_slots::ImageState;
-use mc_keys::RootKind;
 use package_grammar::{Downlink, To};
 use std::alloc::Global;
 use std::process::Abort;
@@ -18,19 +18,14 @@ const SPAN: u32 = 24_640 + 5 * 36;
 
 /// Its sessions are held in flash.
 const CONFIG: DeviceConfig = DeviceConfig {
-    class: Class::C,
-    hw: 1,
     formats: 1,
     rows: 2,
-    offset: 0,
     key: [7; 16],
-    root: RootKind::V10,
-    descriptor: None,
-    sessions: 4,
     groups: 1,
     area: 64,
     held: true,
     span: SPAN,
+    ..common::CONFIG
 };
 
 /// An update with `IMAGE` in two pieces of 26 bytes, and a reboot: a setup of session 0, its two pieces, and DevRebootTimeReq.

@@ -2,8 +2,8 @@
 
 ghost use Rattle.std.specs.Prelude.{◌≡◌};
 
-use crate::common;
-use crate::common::LIMITS;
+use crate::tests::common;
+use crate::tests::common::LIMITS;
 use frag_session::*;
 use row_elimination::Solver;
 use std::alloc::Global;

@@ -5,7 +5,7 @@ ghost use Rattle.flash_session.specs.Body.{FieldsFit};
 ghost use Rattle.sample_receiver.specs.HeldReceiver.{extent};
 ghost use Rattle.sample_flash_receiver.specs.HeldReceiver.{span, IsReceiver};
 
-use crate::part::TestPart;
+use crate::tests::part::TestPart;
 use arrayvec::ArrayVec;
 use flash_session::Flash;
 use frag_encoder::Encoder;

@@ -1,8 +1,8 @@
 //! Erases of three sessions, one after the other, of 256 pieces of 48 bytes of which 10 are lost.
 
-use crate::bench::{empty, encoder, flash_over, received, started};
-use crate::letter::Letter;
-use crate::part::TestPart;
+use crate::tests::bench::{empty, encoder, flash_over, received, started};
+use crate::tests::letter::Letter;
+use crate::tests::part::TestPart;
 use flash_session::Flash;
 use sample_flash_receiver::SPAN;
 use std::alloc::Global;

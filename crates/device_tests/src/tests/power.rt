@@ -2,12 +2,12 @@
 
 ghost use Rattle.std.specs.Prelude.{◌≤◌};
 
-use crate::common::IMAGE;
-use device_core::{Class, Delivered, Device, DeviceConfig};
+use crate::tests::common;
+use crate::tests::common::IMAGE;
+use device_core::{Delivered, Device, DeviceConfig};
 use flash_session::{MemFlash, StopFlash};
 use frag_session::Verdict;
 use image_slots::ImageState;
-use mc_keys::RootKind;
 use package_grammar::{Downlink, To};
 use std::alloc::Global;
 use std::process::Abort;
@@ -24,19 +24,13 @@ const ROOM: u32 = 120_000;
 const ALL: u64 = 1_000_000;
 
 const CONFIG: DeviceConfig = DeviceConfig {
-    class: Class::C,
-    hw: 1,
     formats: 1,
     rows: 2,
-    offset: 0,
-    key: [0; 16],
-    root: RootKind::V10,
-    descriptor: None,
-    sessions: 4,
     groups: 1,
     area: 64,
     held: true,
     span: SPAN,
+    ..common::CONFIG
 };
 
 /// The payloads of the update on port 201, which has `IMAGE` in two pieces of 26 bytes: a status request with a setup of

@@ -1,0 +1,7 @@
+//! The tests, by what they are about.
+
+mod bench;
+mod counted;
+mod cut;
+mod letter;
+mod part;
