@@ -9,7 +9,7 @@ use Rattle.wire_base.specs.Tests.{has_cid}
 use Rattle.wire_base.proofs.Decided as base
 use Rattle.wire_base.proofs.Decided.{leb_tells}
 use Rattle.cast_wire.specs.declared.cmd.Cmd.{Cmd}
-use Rattle.cast_wire.specs.declared.cmd.Cmd.TheVariants.{PackageVersionReq, PackageVersionAns, FragSessionStatusReq, FragSessionStatusAns, FragSessionSetupReq, FragSessionSetupAns, FragSessionDeleteReq, FragSessionDeleteAns, DataFragment, McGroupStatusReq, McGroupStatusAns, McGroupSetupReq, McGroupSetupAns, McGroupDeleteReq, McGroupDeleteAns, McClassCSessionReq, McClassCSessionAns, McClassBSessionReq, McClassBSessionAns}
+use Rattle.cast_wire.specs.declared.cmd.Cmd.TheVariants.{PackageVersionReq, PackageVersionAns, DataFragment, McGroupStatusAns, McGroupSetupReq, McClassCSessionAns, McClassBSessionAns}
 use Rattle.cast_wire.specs.Table.{row, IsWhole, IsKnown}
 use Rattle.cast_wire.specs.Tests.{is_whole, samples, is_known}
 
@@ -26,23 +26,7 @@ sampled : (cmd : Cmd) (port : ℕ) (dir : Direction) → IsListed (row cmd) port
 unfolding samples
 sampled PackageVersionReq port dir l = elim l.port_is [ inl on ↦ rw (on, l.direction_is) refl | inr on ↦ rw (on, l.direction_is) refl ]
 sampled (PackageVersionAns a b) port dir l = elim l.port_is [ inl on ↦ rw (on, l.direction_is) refl | inr on ↦ rw (on, l.direction_is) refl ]
-sampled (FragSessionStatusReq a b) port dir l = rw (l.port_is, l.direction_is) refl
-sampled (FragSessionStatusAns a b c d) port dir l = rw (l.port_is, l.direction_is) refl
-sampled (FragSessionSetupReq a b c d e f g h) port dir l = rw (l.port_is, l.direction_is) refl
-sampled (FragSessionSetupAns a b c d e) port dir l = rw (l.port_is, l.direction_is) refl
-sampled (FragSessionDeleteReq a) port dir l = rw (l.port_is, l.direction_is) refl
-sampled (FragSessionDeleteAns a b) port dir l = rw (l.port_is, l.direction_is) refl
-sampled (DataFragment a b c) port dir l = rw (l.port_is, l.direction_is) refl
-sampled (McGroupStatusReq a) port dir l = rw (l.port_is, l.direction_is) refl
-sampled (McGroupStatusAns a b c) port dir l = rw (l.port_is, l.direction_is) refl
-sampled (McGroupSetupReq a b c d e) port dir l = rw (l.port_is, l.direction_is) refl
-sampled (McGroupSetupAns a b) port dir l = rw (l.port_is, l.direction_is) refl
-sampled (McGroupDeleteReq a) port dir l = rw (l.port_is, l.direction_is) refl
-sampled (McGroupDeleteAns a b) port dir l = rw (l.port_is, l.direction_is) refl
-sampled (McClassCSessionReq a b c d e) port dir l = rw (l.port_is, l.direction_is) refl
-sampled (McClassCSessionAns a b c d e) port dir l = rw (l.port_is, l.direction_is) refl
-sampled (McClassBSessionReq a b c d e f) port dir l = rw (l.port_is, l.direction_is) refl
-sampled (McClassBSessionAns a b c d e) port dir l = rw (l.port_is, l.direction_is) refl
+sampled _ port dir l = rw (l.port_is, l.direction_is) refl
 
 pub known_tells : (port : ℕ) (dir : Direction) (cid : ℕ) → Decides (is_known port dir cid) (IsKnown port dir cid)
 unfolding is_known

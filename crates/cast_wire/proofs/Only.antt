@@ -7,7 +7,7 @@ use Rattle.wire_base.specs.declared.refusal.Direction.{Direction}
 use Rattle.wire_base.specs.Found.{field}
 use Rattle.wire_base.proofs.Spelled.{flag_of, has_bytes}
 use Rattle.cast_wire.specs.declared.cmd.Cmd.{Cmd}
-use Rattle.cast_wire.specs.declared.cmd.Cmd.TheVariants.{PackageVersionReq, PackageVersionAns, FragSessionStatusReq, FragSessionStatusAns, FragSessionSetupReq, FragSessionSetupAns, FragSessionDeleteReq, FragSessionDeleteAns, DataFragment, McGroupStatusReq, McGroupStatusAns, McGroupSetupReq, McGroupSetupAns, McGroupDeleteReq, McGroupDeleteAns, McClassCSessionReq, McClassCSessionAns, McClassBSessionReq, McClassBSessionAns}
+use Rattle.cast_wire.specs.declared.cmd.Cmd.TheVariants.{PackageVersionReq, PackageVersionAns, FragSessionStatusReq, FragSessionStatusAns, FragSessionSetupReq, FragSessionSetupAns, FragSessionDeleteAns, DataFragment, McGroupStatusAns, McGroupSetupReq, McGroupSetupAns, McGroupDeleteAns, McClassCSessionReq, McClassCSessionAns, McClassBSessionReq, McClassBSessionAns}
 use Rattle.cast_wire.specs.Table.{Spells}
 use Rattle.cast_wire.specs.Reading.{fragment_down, fragment_up, group_down, group_up, reading}
 use Rattle.cast_wire.proofs.GroupLists.{groups_known}
@@ -46,7 +46,6 @@ only (FragSessionSetupAns index wrong_descriptor index_unsupported no_memory enc
     let no_memory_is = flag_of _ no_memory p.0.1.1.1.0 in
     let encoding_unsupported_is = flag_of _ encoding_unsupported p.0.1.1.1.1.0 in
     rw (s.listed.port_is, s.listed.direction_is, s.lies.cid_is, has_bytes _ _ _ _ p.1) cc
-only (FragSessionDeleteReq index) port dir bytes at next s = rw (s.listed.port_is, s.listed.direction_is, s.lies.cid_is, has_bytes _ _ _ _ s.lies.parts_lie.1) cc
 only (FragSessionDeleteAns index missing) port dir bytes at next s =
     let p = s.lies.parts_lie in
     let missing_is = flag_of _ missing p.0.0 in
@@ -57,7 +56,6 @@ only (DataFragment index n fragment) port dir bytes at next s =
     let within : leb (at + 4) (length bytes) ≡ true = le-leb _ _ (omega (arith, taken, s.whole.0)) in
     let ends : length bytes ≡ next = omega (arith, taken, s.whole.0, p.1.1.0) in
     rw (s.listed.port_is, s.listed.direction_is, s.lies.cid_is, within) cc
-only (McGroupStatusReq mask) port dir bytes at next s = rw (s.listed.port_is, s.listed.direction_is, s.lies.cid_is, has_bytes _ _ _ _ s.lies.parts_lie.1) cc
 only (McGroupStatusAns total mask groups) port dir bytes at next s =
     let p = s.lies.parts_lie in
     let known = groups_known groups bytes at 2 next p.1 in
@@ -75,7 +73,6 @@ only (McGroupSetupAns id error) port dir bytes at next s =
     let p = s.lies.parts_lie in
     let error_is = flag_of _ error p.0.0 in
     rw (s.listed.port_is, s.listed.direction_is, s.lies.cid_is, has_bytes _ _ _ _ p.1) cc
-only (McGroupDeleteReq id) port dir bytes at next s = rw (s.listed.port_is, s.listed.direction_is, s.lies.cid_is, has_bytes _ _ _ _ s.lies.parts_lie.1) cc
 only (McGroupDeleteAns id undefined) port dir bytes at next s =
     let p = s.lies.parts_lie in
     let undefined_is = flag_of _ undefined p.0.0 in
@@ -106,3 +103,4 @@ only (McClassBSessionAns id undefined freq_error dr_error (Some start)) port dir
     let freq_error_is = flag_of _ freq_error p.0.1.0 in
     let dr_error_is = flag_of _ dr_error p.0.1.1.0 in
     rw (s.listed.port_is, s.listed.direction_is, s.lies.cid_is, undefined_is, freq_error_is, dr_error_is, ← s.whole, has_bytes _ _ _ _ p.1.1) cc
+only _ port dir bytes at next s = rw (s.listed.port_is, s.listed.direction_is, s.lies.cid_is, has_bytes _ _ _ _ s.lies.parts_lie.1) cc

@@ -5,7 +5,7 @@ use Rattle.wire_base.specs.Rows.{IsListed, takes_rest, is_well_formed}
 use Rattle.wire_base.proofs.RowLaws.{row_written}
 use Rattle.wire_base.proofs.Spelled as spelled
 use Rattle.cast_wire.specs.declared.cmd.Cmd.{Cmd}
-use Rattle.cast_wire.specs.declared.cmd.Cmd.TheVariants.{PackageVersionReq, PackageVersionAns, FragSessionStatusReq, FragSessionStatusAns, FragSessionSetupReq, FragSessionSetupAns, FragSessionDeleteReq, FragSessionDeleteAns, DataFragment, McGroupStatusReq, McGroupStatusAns, McGroupSetupReq, McGroupSetupAns, McGroupDeleteReq, McGroupDeleteAns, McClassCSessionReq, McClassCSessionAns, McClassBSessionReq, McClassBSessionAns}
+use Rattle.cast_wire.specs.declared.cmd.Cmd.TheVariants.{McGroupStatusAns, McClassCSessionAns, McClassBSessionAns}
 use Rattle.cast_wire.specs.declared.group_list.GroupAddress.{GroupAddress}
 use Rattle.cast_wire.specs.Table.{row, group_parts, start_parts, IsWhole, Spells, IsValid, canonical}
 use Rattle.cast_wire.specs.Reading.{reading}
@@ -21,25 +21,10 @@ start_formed (Some start) = refl
 
 -- the fields of each row are apart, and its identifier is a byte
 pub row_formed : (c : Cmd) → (is_well_formed (row c).parts ≡ true) × ((row c).cid < 256)
-row_formed PackageVersionReq = (refl, omega arith)
-row_formed (PackageVersionAns identifier version) = (refl, omega arith)
-row_formed (FragSessionStatusReq index all) = (refl, omega arith)
-row_formed (FragSessionStatusAns index received missing norows) = (refl, omega arith)
-row_formed (FragSessionSetupReq index mask nb_frag frag_size algo delay padding descriptor) = (refl, omega arith)
-row_formed (FragSessionSetupAns index wrong_descriptor index_unsupported no_memory encoding_unsupported) = (refl, omega arith)
-row_formed (FragSessionDeleteReq index) = (refl, omega arith)
-row_formed (FragSessionDeleteAns index missing) = (refl, omega arith)
-row_formed (DataFragment index n fragment) = (refl, omega arith)
-row_formed (McGroupStatusReq mask) = (refl, omega arith)
 row_formed (McGroupStatusAns total mask groups) = (groups_formed groups, omega arith)
-row_formed (McGroupSetupReq id addr key min max) = (refl, omega arith)
-row_formed (McGroupSetupAns id error) = (refl, omega arith)
-row_formed (McGroupDeleteReq id) = (refl, omega arith)
-row_formed (McGroupDeleteAns id undefined) = (refl, omega arith)
-row_formed (McClassCSessionReq id time timeout freq dr) = (refl, omega arith)
 row_formed (McClassCSessionAns id undefined freq_error dr_error start) = (start_formed start, omega arith)
-row_formed (McClassBSessionReq id time periodicity timeout freq dr) = (refl, omega arith)
 row_formed (McClassBSessionAns id undefined freq_error dr_error start) = (start_formed start, omega arith)
+row_formed _ = (refl, omega arith)
 
 pub written : (c : Cmd) (port : ℕ) (dir : Direction) (before after : List ℕ) → IsValid c → IsListed (row c) port dir → (takes_rest (row c).parts ≡ true → after ≡ [])
     → Spells c port dir (before ++ (canonical c ++ after)) (length before) (length before + length (canonical c))

@@ -23,42 +23,12 @@ use Rattle.package_grammar.specs.Grammar.{row, Spells, IsPort, IsKnown, IsRefusa
 pub sync_port : (cmd : SyncCmd) (port : ℕ) (dir : Direction) → IsListed (sync.row cmd) port dir → (202 ≤ port) × (port ≤ 203)
 sync_port s.PackageVersionReq port dir listed = elim listed.port_is [ inl is ↦ (omega (arith, is), omega (arith, is)) | inr is ↦ (omega (arith, is), omega (arith, is)) ]
 sync_port (s.PackageVersionAns a b) port dir listed = elim listed.port_is [ inl is ↦ (omega (arith, is), omega (arith, is)) | inr is ↦ (omega (arith, is), omega (arith, is)) ]
-sync_port (s.AppTimeReq a b c) port dir listed = (omega (arith, listed.port_is), omega (arith, listed.port_is))
-sync_port (s.AppTimeAns a b) port dir listed = (omega (arith, listed.port_is), omega (arith, listed.port_is))
-sync_port (s.DeviceAppTimePeriodicityReq a) port dir listed = (omega (arith, listed.port_is), omega (arith, listed.port_is))
-sync_port (s.DeviceAppTimePeriodicityAns a b) port dir listed = (omega (arith, listed.port_is), omega (arith, listed.port_is))
-sync_port (s.ForceDeviceResyncReq a) port dir listed = (omega (arith, listed.port_is), omega (arith, listed.port_is))
-sync_port s.DevVersionReq port dir listed = (omega (arith, listed.port_is), omega (arith, listed.port_is))
-sync_port (s.DevVersionAns a b) port dir listed = (omega (arith, listed.port_is), omega (arith, listed.port_is))
-sync_port (s.DevRebootTimeReq a) port dir listed = (omega (arith, listed.port_is), omega (arith, listed.port_is))
-sync_port (s.DevRebootTimeAns a) port dir listed = (omega (arith, listed.port_is), omega (arith, listed.port_is))
-sync_port (s.DevRebootCountdownReq a) port dir listed = (omega (arith, listed.port_is), omega (arith, listed.port_is))
-sync_port (s.DevRebootCountdownAns a) port dir listed = (omega (arith, listed.port_is), omega (arith, listed.port_is))
-sync_port s.DevUpgradeImageReq port dir listed = (omega (arith, listed.port_is), omega (arith, listed.port_is))
-sync_port (s.DevUpgradeImageAns a b) port dir listed = (omega (arith, listed.port_is), omega (arith, listed.port_is))
-sync_port (s.DevDeleteImageReq a) port dir listed = (omega (arith, listed.port_is), omega (arith, listed.port_is))
-sync_port (s.DevDeleteImageAns a) port dir listed = (omega (arith, listed.port_is), omega (arith, listed.port_is))
+sync_port _ port dir listed = (omega (arith, listed.port_is), omega (arith, listed.port_is))
 
 pub cast_port : (cmd : CastCmd) (port : ℕ) (dir : Direction) → IsListed (cast.row cmd) port dir → (200 ≤ port) × (port ≤ 201)
 cast_port c.PackageVersionReq port dir listed = elim listed.port_is [ inl is ↦ (omega (arith, is), omega (arith, is)) | inr is ↦ (omega (arith, is), omega (arith, is)) ]
 cast_port (c.PackageVersionAns a b) port dir listed = elim listed.port_is [ inl is ↦ (omega (arith, is), omega (arith, is)) | inr is ↦ (omega (arith, is), omega (arith, is)) ]
-cast_port (c.FragSessionStatusReq a b) port dir listed = (omega (arith, listed.port_is), omega (arith, listed.port_is))
-cast_port (c.FragSessionStatusAns a b c d) port dir listed = (omega (arith, listed.port_is), omega (arith, listed.port_is))
-cast_port (c.FragSessionSetupReq a b c d e f g h) port dir listed = (omega (arith, listed.port_is), omega (arith, listed.port_is))
-cast_port (c.FragSessionSetupAns a b c d e) port dir listed = (omega (arith, listed.port_is), omega (arith, listed.port_is))
-cast_port (c.FragSessionDeleteReq a) port dir listed = (omega (arith, listed.port_is), omega (arith, listed.port_is))
-cast_port (c.FragSessionDeleteAns a b) port dir listed = (omega (arith, listed.port_is), omega (arith, listed.port_is))
-cast_port (c.DataFragment a b c) port dir listed = (omega (arith, listed.port_is), omega (arith, listed.port_is))
-cast_port (c.McGroupStatusReq a) port dir listed = (omega (arith, listed.port_is), omega (arith, listed.port_is))
-cast_port (c.McGroupStatusAns a b c) port dir listed = (omega (arith, listed.port_is), omega (arith, listed.port_is))
-cast_port (c.McGroupSetupReq a b c d e) port dir listed = (omega (arith, listed.port_is), omega (arith, listed.port_is))
-cast_port (c.McGroupSetupAns a b) port dir listed = (omega (arith, listed.port_is), omega (arith, listed.port_is))
-cast_port (c.McGroupDeleteReq a) port dir listed = (omega (arith, listed.port_is), omega (arith, listed.port_is))
-cast_port (c.McGroupDeleteAns a b) port dir listed = (omega (arith, listed.port_is), omega (arith, listed.port_is))
-cast_port (c.McClassCSessionReq a b c d e) port dir listed = (omega (arith, listed.port_is), omega (arith, listed.port_is))
-cast_port (c.McClassCSessionAns a b c d e) port dir listed = (omega (arith, listed.port_is), omega (arith, listed.port_is))
-cast_port (c.McClassBSessionReq a b c d e f) port dir listed = (omega (arith, listed.port_is), omega (arith, listed.port_is))
-cast_port (c.McClassBSessionAns a b c d e) port dir listed = (omega (arith, listed.port_is), omega (arith, listed.port_is))
+cast_port _ port dir listed = (omega (arith, listed.port_is), omega (arith, listed.port_is))
 
 -- a command that is spelled on one of the ports is of its table
 pub not_cast : (cmd : CastCmd) (port : ℕ) (dir : Direction) (bytes : List ℕ) (at next : ℕ) → 202 ≤ port → Spells (Cast cmd) port dir bytes at next → ⊥

@@ -18,52 +18,25 @@ use Rattle.package_grammar.specs.declared.command.Command.TheVariants.{Sync, Cas
 use Rattle.package_grammar.specs.Grammar.{row, IsPort, IsValid, IsMessage, canonical}
 use Rattle.package_grammar.proofs.Tables.{sync_port, cast_port}
 
-sync_fits : (cmd : SyncCmd) → length (spelling (sync.row cmd)) ≤ 242
-sync_fits s.PackageVersionReq = lit≤ tt
-sync_fits (s.PackageVersionAns identifier version) = lit≤ tt
-sync_fits (s.AppTimeReq time required token) = lit≤ tt
-sync_fits (s.AppTimeAns correction token) = lit≤ tt
-sync_fits (s.DeviceAppTimePeriodicityReq period) = lit≤ tt
-sync_fits (s.DeviceAppTimePeriodicityAns unsupported time) = lit≤ tt
-sync_fits (s.ForceDeviceResyncReq count) = lit≤ tt
-sync_fits s.DevVersionReq = lit≤ tt
-sync_fits (s.DevVersionAns firmware hardware) = lit≤ tt
-sync_fits (s.DevRebootTimeReq time) = lit≤ tt
-sync_fits (s.DevRebootTimeAns time) = lit≤ tt
-sync_fits (s.DevRebootCountdownReq count) = lit≤ tt
-sync_fits (s.DevRebootCountdownAns count) = lit≤ tt
-sync_fits s.DevUpgradeImageReq = lit≤ tt
-sync_fits (s.DevUpgradeImageAns status None) = lit≤ tt
-sync_fits (s.DevUpgradeImageAns status (Some next)) = lit≤ tt
-sync_fits (s.DevDeleteImageReq version) = lit≤ tt
-sync_fits (s.DevDeleteImageAns errors) = lit≤ tt
+-- no command of the clock or of firmware takes more
+pub sync_short : (cmd : SyncCmd) → length (spelling (sync.row cmd)) ≤ 22
+sync_short (s.DevUpgradeImageAns status None) = lit≤ tt
+sync_short (s.DevUpgradeImageAns status (Some next)) = lit≤ tt
+sync_short _ = lit≤ tt
 
 cast_fits : (cmd : CastCmd) → PartsFit (cast.row cmd).parts → cast.IsWhole cmd → length (spelling (cast.row cmd)) ≤ 242
-cast_fits c.PackageVersionReq fields whole = lit≤ tt
-cast_fits (c.PackageVersionAns identifier version) fields whole = lit≤ tt
-cast_fits (c.FragSessionStatusReq index all) fields whole = lit≤ tt
-cast_fits (c.FragSessionStatusAns index received missing norows) fields whole = lit≤ tt
-cast_fits (c.FragSessionSetupReq index mask nb_frag frag_size algo delay padding descriptor) fields whole = lit≤ tt
-cast_fits (c.FragSessionSetupAns index descriptor unsupported memory encoding) fields whole = lit≤ tt
-cast_fits (c.FragSessionDeleteReq index) fields whole = lit≤ tt
-cast_fits (c.FragSessionDeleteAns index missing) fields whole = lit≤ tt
 cast_fits (c.DataFragment index n part) fields whole = omega (arith, length-append part [], whole.1)
-cast_fits (c.McGroupStatusReq mask) fields whole = lit≤ tt
 cast_fits (c.McGroupStatusAns total mask groups) fields whole = omega (arith, length-group_bytes groups, whole, ones_le_self mask, fields.0.1.0)
 cast_fits (c.McGroupSetupReq id addr key min max) fields whole = omega (arith, length-append key (number_bytes 4 min ++ (number_bytes 4 max ++ [])), whole)
-cast_fits (c.McGroupSetupAns id error) fields whole = lit≤ tt
-cast_fits (c.McGroupDeleteReq id) fields whole = lit≤ tt
-cast_fits (c.McGroupDeleteAns id undefined) fields whole = lit≤ tt
-cast_fits (c.McClassCSessionReq id time timeout freq dr) fields whole = lit≤ tt
 cast_fits (c.McClassCSessionAns id undefined freq_error dr_error None) fields whole = lit≤ tt
 cast_fits (c.McClassCSessionAns id undefined freq_error dr_error (Some start)) fields whole = lit≤ tt
-cast_fits (c.McClassBSessionReq id time periodicity timeout freq dr) fields whole = lit≤ tt
 cast_fits (c.McClassBSessionAns id undefined freq_error dr_error None) fields whole = lit≤ tt
 cast_fits (c.McClassBSessionAns id undefined freq_error dr_error (Some start)) fields whole = lit≤ tt
+cast_fits _ fields whole = lit≤ tt
 
 -- a valid command is spelled in a payload
 pub fits : (command : Command) → IsValid command → length (canonical command) ≤ 242
-fits (Sync cmd) valid = sync_fits cmd
+fits (Sync cmd) valid = omega (arith, sync_short cmd)
 fits (Cast cmd) valid = cast_fits cmd valid.fields valid.whole
 
 ports : (command : Command) (port : ℕ) (dir : Direction) → IsListed (row command) port dir → IsPort port

@@ -11,7 +11,7 @@ use Rattle.wire_base.specs.Rows.{IsListed}
 use Rattle.wire_base.specs.Tests.{has_cid}
 use Rattle.wire_base.proofs.Decided as base
 use Rattle.sync_wire.specs.declared.cmd.Cmd.{Cmd}
-use Rattle.sync_wire.specs.declared.cmd.Cmd.TheVariants.{PackageVersionReq, PackageVersionAns, AppTimeReq, AppTimeAns, DeviceAppTimePeriodicityReq, DeviceAppTimePeriodicityAns, ForceDeviceResyncReq, DevVersionReq, DevVersionAns, DevRebootTimeReq, DevRebootTimeAns, DevRebootCountdownReq, DevRebootCountdownAns, DevUpgradeImageReq, DevUpgradeImageAns, DevDeleteImageReq, DevDeleteImageAns}
+use Rattle.sync_wire.specs.declared.cmd.Cmd.TheVariants.{PackageVersionReq, PackageVersionAns, AppTimeAns, DevUpgradeImageAns}
 use Rattle.sync_wire.specs.Table.{row, IsWhole, IsKnown}
 use Rattle.sync_wire.specs.Tests.{is_whole, samples, is_known}
 
@@ -26,21 +26,7 @@ sampled : (cmd : Cmd) (port : ℕ) (dir : Direction) → IsListed (row cmd) port
 unfolding samples
 sampled PackageVersionReq port dir l = elim l.port_is [ inl on ↦ rw (on, l.direction_is) refl | inr on ↦ rw (on, l.direction_is) refl ]
 sampled (PackageVersionAns a b) port dir l = elim l.port_is [ inl on ↦ rw (on, l.direction_is) refl | inr on ↦ rw (on, l.direction_is) refl ]
-sampled (AppTimeReq a b c) port dir l = rw (l.port_is, l.direction_is) refl
-sampled (AppTimeAns a b) port dir l = rw (l.port_is, l.direction_is) refl
-sampled (DeviceAppTimePeriodicityReq a) port dir l = rw (l.port_is, l.direction_is) refl
-sampled (DeviceAppTimePeriodicityAns a b) port dir l = rw (l.port_is, l.direction_is) refl
-sampled (ForceDeviceResyncReq a) port dir l = rw (l.port_is, l.direction_is) refl
-sampled DevVersionReq port dir l = rw (l.port_is, l.direction_is) refl
-sampled (DevVersionAns a b) port dir l = rw (l.port_is, l.direction_is) refl
-sampled (DevRebootTimeReq a) port dir l = rw (l.port_is, l.direction_is) refl
-sampled (DevRebootTimeAns a) port dir l = rw (l.port_is, l.direction_is) refl
-sampled (DevRebootCountdownReq a) port dir l = rw (l.port_is, l.direction_is) refl
-sampled (DevRebootCountdownAns a) port dir l = rw (l.port_is, l.direction_is) refl
-sampled DevUpgradeImageReq port dir l = rw (l.port_is, l.direction_is) refl
-sampled (DevUpgradeImageAns a b) port dir l = rw (l.port_is, l.direction_is) refl
-sampled (DevDeleteImageReq a) port dir l = rw (l.port_is, l.direction_is) refl
-sampled (DevDeleteImageAns a) port dir l = rw (l.port_is, l.direction_is) refl
+sampled _ port dir l = rw (l.port_is, l.direction_is) refl
 
 pub known_tells : (port : ℕ) (dir : Direction) (cid : ℕ) → Decides (is_known port dir cid) (IsKnown port dir cid)
 unfolding is_known

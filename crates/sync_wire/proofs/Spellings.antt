@@ -5,7 +5,7 @@ use Rattle.wire_base.specs.Rows.{IsListed, takes_rest, is_well_formed}
 use Rattle.wire_base.proofs.RowLaws.{row_written}
 use Rattle.wire_base.proofs.Spelled as spelled
 use Rattle.sync_wire.specs.declared.cmd.Cmd.{Cmd}
-use Rattle.sync_wire.specs.declared.cmd.Cmd.TheVariants.{PackageVersionReq, PackageVersionAns, AppTimeReq, AppTimeAns, DeviceAppTimePeriodicityReq, DeviceAppTimePeriodicityAns, ForceDeviceResyncReq, DevVersionReq, DevVersionAns, DevRebootTimeReq, DevRebootTimeAns, DevRebootCountdownReq, DevRebootCountdownAns, DevUpgradeImageReq, DevUpgradeImageAns, DevDeleteImageReq, DevDeleteImageAns}
+use Rattle.sync_wire.specs.declared.cmd.Cmd.TheVariants.{DevUpgradeImageAns}
 use Rattle.sync_wire.specs.Table.{row, IsWhole, Spells, IsValid, canonical}
 use Rattle.sync_wire.specs.Reading.{reading}
 use Rattle.sync_wire.proofs.Only.{only}
@@ -17,24 +17,9 @@ record IsFormed (c : Cmd) : Type 0 where
   closed : takes_rest (row c).parts ≡ false
 
 row_formed : (c : Cmd) → IsFormed c
-row_formed PackageVersionReq = record { formed = refl; cid_small = omega arith; closed = refl }
-row_formed (PackageVersionAns identifier version) = record { formed = refl; cid_small = omega arith; closed = refl }
-row_formed (AppTimeReq time required token) = record { formed = refl; cid_small = omega arith; closed = refl }
-row_formed (AppTimeAns correction token) = record { formed = refl; cid_small = omega arith; closed = refl }
-row_formed (DeviceAppTimePeriodicityReq period) = record { formed = refl; cid_small = omega arith; closed = refl }
-row_formed (DeviceAppTimePeriodicityAns unsupported time) = record { formed = refl; cid_small = omega arith; closed = refl }
-row_formed (ForceDeviceResyncReq count) = record { formed = refl; cid_small = omega arith; closed = refl }
-row_formed DevVersionReq = record { formed = refl; cid_small = omega arith; closed = refl }
-row_formed (DevVersionAns firmware hardware) = record { formed = refl; cid_small = omega arith; closed = refl }
-row_formed (DevRebootTimeReq time) = record { formed = refl; cid_small = omega arith; closed = refl }
-row_formed (DevRebootTimeAns time) = record { formed = refl; cid_small = omega arith; closed = refl }
-row_formed (DevRebootCountdownReq count) = record { formed = refl; cid_small = omega arith; closed = refl }
-row_formed (DevRebootCountdownAns count) = record { formed = refl; cid_small = omega arith; closed = refl }
-row_formed DevUpgradeImageReq = record { formed = refl; cid_small = omega arith; closed = refl }
 row_formed (DevUpgradeImageAns status None) = record { formed = refl; cid_small = omega arith; closed = refl }
 row_formed (DevUpgradeImageAns status (Some next)) = record { formed = refl; cid_small = omega arith; closed = refl }
-row_formed (DevDeleteImageReq version) = record { formed = refl; cid_small = omega arith; closed = refl }
-row_formed (DevDeleteImageAns errors) = record { formed = refl; cid_small = omega arith; closed = refl }
+row_formed _ = record { formed = refl; cid_small = omega arith; closed = refl }
 
 pub written : (c : Cmd) (port : ℕ) (dir : Direction) (before after : List ℕ) → IsValid c → IsListed (row c) port dir
     → Spells c port dir (before ++ (canonical c ++ after)) (length before) (length before + length (canonical c))
