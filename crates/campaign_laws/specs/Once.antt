@@ -9,10 +9,9 @@ use Rattle.package_grammar.specs.declared.command.Command.TheVariants.{Sync, Cas
 use Rattle.package_grammar.specs.Reading.{reading_of}
 use Rattle.campaign_server.specs.declared.stage.Stage.{Stage}
 use Rattle.campaign_server.specs.declared.stage.Stage.TheVariants.{At, Updated, Refused}
-use Rattle.campaign_server.specs.declared.stage.Request.{Request}
-use Rattle.campaign_server.specs.declared.stage.Request.TheVariants.{Version, Group, Fragments, Window, Status, Image, Reboot, Check}
 use Rattle.campaign_server.specs.Plan.{Plan}
 use Rattle.wire_base.specs.Numbered.{numbered}
+use Rattle.campaign_server.specs.Asking.{request_rank}
 use Rattle.campaign_server.specs.Answers.{stage_after}
 use Rattle.script_lines.specs.declared.forms.Form.TheVariants.{Up}
 use Rattle.campaign_world.specs.declared.numbered.NumberedUplink.{NumberedUplink}
@@ -23,17 +22,7 @@ use Rattle.campaign_world.specs.Making.{after_up}
 use Rattle.campaign_world.specs.Script.{read_lines}
 use Rattle.campaign_laws.specs.Fields.{AllFit}
 
--- how far a device is
-abbrev pub request_rank : Request → ℕ
-request_rank Version = 0
-request_rank Group = 1
-request_rank Fragments = 2
-request_rank Window = 3
-request_rank Status = 4
-request_rank Image = 5
-request_rank Reboot = 6
-request_rank Check = 7
-
+-- how far a device is: its request's place in the order of a campaign
 abbrev pub rank : Stage → ℕ
 rank (At request) = request_rank request
 rank Updated = 8

@@ -14,7 +14,7 @@ use Rattle.campaign_server.specs.declared.stage.LastStatus.{LastStatus}
 use Rattle.campaign_server.specs.declared.stage.Stage.{Stage}
 use Rattle.campaign_server.specs.declared.stage.Stage.TheVariants.{At, Updated, Refused}
 use Rattle.campaign_server.specs.declared.stage.Request.{Request}
-use Rattle.campaign_server.specs.declared.stage.Request.TheVariants.{Version, Group, Fragments, Window, Status, Image, Reboot, Check}
+use Rattle.campaign_server.specs.declared.stage.Request.TheVariants.{Version}
 use Rattle.frag_encoder.specs.Encoding.{nb_frag_of}
 use Rattle.campaign_server.specs.declared.plan.PlanGroup.{PlanGroup}
 use Rattle.campaign_server.specs.declared.plan.Field.{Field}
@@ -26,40 +26,23 @@ use Rattle.campaign_server.specs.Plan.{Plan, bad_field}
 use Rattle.campaign_server.specs.Server.{ServerState, IsCount, first_server}
 use Rattle.campaign_server.specs.Fragments.{last_fragment}
 use Rattle.campaign_server.proofs.Plans.{both, plan_of_fine}
-use Rattle.campaign_server.specs.Saving.{request_byte, stage_bytes, status_bytes, head_bytes, state_bytes, plan_bytes, saved_of, IsOver}
+use Rattle.campaign_server.specs.Asking.{request_rank}
+use Rattle.campaign_server.specs.Saving.{stage_bytes, status_bytes, head_bytes, state_bytes, plan_bytes, saved_of, IsOver}
 use Rattle.campaign_server.specs.SavingInside.{restore_error, request_of, stage_of, stage_at, stages_in, status_of, status_at, statuses_in, is_count, fits, told_of}
 
 -- ---- a stage
 
-read_request : (request : Request) → request_of (request_byte request) ≡ request
+read_request : (request : Request) → request_of (request_rank request) ≡ request
 read_request Version = refl
-read_request Group = refl
-read_request Fragments = refl
-read_request Window = refl
-read_request Status = refl
-read_request Image = refl
-read_request Reboot = refl
-read_request Check = refl
+read_request _ = refl
 
-read_at : (request : Request) → stage_of (request_byte request) 0 ≡ At request
+read_at : (request : Request) → stage_of (request_rank request) 0 ≡ At request
 read_at Version = refl
-read_at Group = refl
-read_at Fragments = refl
-read_at Window = refl
-read_at Status = refl
-read_at Image = refl
-read_at Reboot = refl
-read_at Check = refl
+read_at _ = refl
 
-read_refused : (request : Request) (bits : ℕ) → stage_of (16 + request_byte request) bits ≡ Refused request bits
+read_refused : (request : Request) (bits : ℕ) → stage_of (16 + request_rank request) bits ≡ Refused request bits
 read_refused Version bits = refl
-read_refused Group bits = refl
-read_refused Fragments bits = refl
-read_refused Window bits = refl
-read_refused Status bits = refl
-read_refused Image bits = refl
-read_refused Reboot bits = refl
-read_refused Check bits = refl
+read_refused _ bits = refl
 
 -- the two bytes of a stage are read as it
 read_stage : (stage : Stage) → stage_of (get_or (stage_bytes stage) 0 0) (get_or (stage_bytes stage) 1 0) ≡ stage

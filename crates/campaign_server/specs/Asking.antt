@@ -17,6 +17,7 @@ use Rattle.campaign_server.specs.declared.plan.Kind.{Kind}
 use Rattle.campaign_server.specs.declared.plan.Kind.TheVariants as kind
 use Rattle.campaign_server.specs.declared.stage.Stage.{Stage}
 use Rattle.campaign_server.specs.declared.stage.Stage.TheVariants.{At, Updated, Refused}
+use Rattle.campaign_server.specs.declared.stage.Request.{Request}
 use Rattle.campaign_server.specs.declared.stage.Request.TheVariants.{Version, Group, Fragments, Window, Status, Image, Reboot, Check}
 use Rattle.campaign_server.specs.Plan.{Plan, own_id}
 use Rattle.campaign_server.specs.Wrapping.{wrapped_key}
@@ -24,6 +25,17 @@ use Rattle.campaign_server.specs.Server.{ServerState, DownlinkCommand, ledger}
 use Rattle.wire_base.specs.Numbered.{numbered}
 
 -- ---- the requests
+
+-- the place of a request in the order of a campaign
+abbrev pub request_rank : Request → ℕ
+request_rank Version = 0
+request_rank Group = 1
+request_rank Fragments = 2
+request_rank Window = 3
+request_rank Status = 4
+request_rank Image = 5
+request_rank Reboot = 6
+request_rank Check = 7
 
 -- the group, its key wrapped for the device: under the root key of its GenAppKey, or of its AppKey
 abbrev pub group_request : PlanDevice → PlanGroup → Cmd

@@ -22,9 +22,8 @@ use Rattle.campaign_server.specs.declared.plan.Kind.TheVariants as kind
 use Rattle.campaign_server.specs.declared.stage.LastStatus.{LastStatus}
 use Rattle.campaign_server.specs.declared.stage.Stage.{Stage}
 use Rattle.campaign_server.specs.declared.stage.Stage.TheVariants.{At, Updated, Refused}
-use Rattle.campaign_server.specs.declared.stage.Request.{Request}
-use Rattle.campaign_server.specs.declared.stage.Request.TheVariants.{Version, Group, Fragments, Window, Status, Image, Reboot, Check}
 use Rattle.campaign_server.specs.Plan.{Plan, bad_field}
+use Rattle.campaign_server.specs.Asking.{request_rank}
 use Rattle.campaign_server.specs.Server.{ServerState, IsCount}
 use Rattle.campaign_server.specs.Fragments.{last_fragment}
 
@@ -59,21 +58,10 @@ plan_bytes plan =
 
 -- ---- what is known
 
--- the number of a request, in the order of a campaign
-abbrev pub request_byte : Request → ℕ
-request_byte Version = 0
-request_byte Group = 1
-request_byte Fragments = 2
-request_byte Window = 3
-request_byte Status = 4
-request_byte Image = 5
-request_byte Reboot = 6
-request_byte Check = 7
-
 abbrev pub stage_bytes : Stage → List ℕ
-stage_bytes (At request) = request_byte request ∷ 0 ∷ []
+stage_bytes (At request) = request_rank request ∷ 0 ∷ []
 stage_bytes Updated = 8 ∷ 0 ∷ []
-stage_bytes (Refused request bits) = (16 + request_byte request) ∷ bits ∷ []
+stage_bytes (Refused request bits) = (16 + request_rank request) ∷ bits ∷ []
 
 abbrev pub status_bytes : Option LastStatus → List ℕ
 status_bytes None = 0 ∷ 0 ∷ 0 ∷ 0 ∷ []

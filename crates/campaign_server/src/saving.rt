@@ -5,7 +5,8 @@ ghost use Rattle.std.specs.Prelude.{◌≡◌, ◌+◌, ◌*◌, ◌≤◌, ◌+
 ghost use Rattle.std.specs.List.{flat_map};
 ghost use Rattle.sha2.specs.Sha256.{sha256};
 ghost use Rattle.campaign_server.specs.Plan.{max_devices};
-ghost use Rattle.campaign_server.specs.Saving.{group_bytes, kind_bytes, window_bytes, root_byte, device_bytes, plan_bytes, request_byte, stage_bytes, status_bytes, head_bytes, saved_of};
+ghost use Rattle.campaign_server.specs.Asking.{request_rank};
+ghost use Rattle.campaign_server.specs.Saving.{group_bytes, kind_bytes, window_bytes, root_byte, device_bytes, plan_bytes, stage_bytes, status_bytes, head_bytes, saved_of};
 ghost use Rattle.campaign_server.specs.SavingInside.{restore_error, request_of, stage_of, stage_at, stages_in, status_of, status_at, statuses_in};
 
 use crate::plan::{Field, Kind, Plan, PlanDevice, PlanGroup, PlanWindow};
@@ -155,14 +156,14 @@ fn stage_bytes(stage: Stage) -> [u8; 2]
     ensures { result ≡ stage_bytes stage }
 {
     match stage {
-        Stage::At(request) => [request_byte(request), 0],
+        Stage::At(request) => [request_rank(request), 0],
         Stage::Updated => [8, 0],
-        Stage::Refused { request, bits } => [16 + request_byte(request), bits],
+        Stage::Refused { request, bits } => [16 + request_rank(request), bits],
     }
 }
 
-fn request_byte(request: Request) -> u8
-    ensures value { result ≡ request_byte request }
+fn request_rank(request: Request) -> u8
+    ensures value { result ≡ request_rank request }
     ensures few { result ≤ 7 }
 {
     match request {

@@ -5,7 +5,8 @@ ghost use Rattle.device_core.specs.Firmware.{after_migration};
 ghost use Rattle.device_core.specs.HeldDevice.{Becomes};
 ghost use Rattle.c_base.specs.Answer.{done, no_object};
 ghost use Rattle.c_base.specs.Calls.{Does, Tells};
-ghost use Rattle.fuota_c.specs.Telling.{counts_of, next_of, image_number, version_of};
+ghost use Rattle.device_core.specs.Saving.{next_byte, next_version};
+ghost use Rattle.fuota_c.specs.Telling.{counts_of, next_of};
 
 use crate::device_handle::DeviceHandle;
 use c_base::answer::{DONE, NO_OBJECT};
@@ -92,7 +93,7 @@ fn next_of(state: ImageState) -> NextFields
 }
 
 fn version_of(state: ImageState) -> u32
-    ensures { result ≡ version_of state }
+    ensures { result ≡ next_version state }
 {
     match state {
         ImageState::Valid(version) => version,
@@ -101,7 +102,7 @@ fn version_of(state: ImageState) -> u32
 }
 
 fn image_number(state: ImageState) -> u8
-    ensures { result ≡ image_number state }
+    ensures { result ≡ next_byte state }
 {
     match state {
         ImageState::None => 0,

@@ -1,5 +1,5 @@
 -- What the calls of a server write for C.
-use Rattle.std.specs.Prelude.{◌≡◌, ◌&&◌, ℕ, Bool, true, false, nat_le, List, length, take, Option, Some, None, option_map, Result, Ok, Err}
+use Rattle.std.specs.Prelude.{◌≡◌, ◌&&◌, ℕ, ◌+◌, Bool, true, false, nat_le, List, length, take, Option, Some, None, option_map, Result, Ok, Err}
 use Rattle.wire_base.specs.declared.refusal.Refusal.{Refusal}
 use Rattle.wire_base.specs.Payload.{max_payload}
 use Rattle.package_grammar.specs.declared.downlink.To.{To}
@@ -8,12 +8,11 @@ use Rattle.package_grammar.specs.declared.downlink.Downlink.{Downlink}
 use Rattle.campaign_server.specs.declared.fragments.Spent.{Spent}
 use Rattle.campaign_server.specs.declared.fragments.Spent.TheVariants.{Fragments, Counts}
 use Rattle.campaign_server.specs.declared.stage.Request.{Request}
-use Rattle.campaign_server.specs.declared.stage.Request.TheVariants as request
 use Rattle.campaign_server.specs.declared.stage.LastStatus.{LastStatus}
 use Rattle.campaign_server.specs.declared.stage.Stage.{Stage}
 use Rattle.campaign_server.specs.declared.stage.Stage.TheVariants.{At, Updated, Refused}
 use Rattle.campaign_server.specs.Server.{ServerState, ledger, last_status}
-use Rattle.campaign_server.specs.Asking.{request_of}
+use Rattle.campaign_server.specs.Asking.{request_rank, request_of}
 use Rattle.campaign_server.specs.Fragments.{next_fragment, after_fragment, status_to_all, after_status_to_all}
 use Rattle.campaign_server.specs.Framing.{has_frame, frame_for}
 use Rattle.campaign_server.specs.Uplinks.{UplinkStep}
@@ -109,15 +108,9 @@ pub record TakesUplink (x y : ServerState) (dev : ℕ) (payload : List ℕ) (ste
 
 -- ---- the ledger
 
+-- the number of a request in the header, where 0 is none
 abbrev pub request_number : Request → ℕ
-request_number request.Version = 1
-request_number request.Group = 2
-request_number request.Fragments = 3
-request_number request.Window = 4
-request_number request.Status = 5
-request_number request.Image = 6
-request_number request.Reboot = 7
-request_number request.Check = 8
+request_number r = request_rank r + 1
 
 abbrev pub fields_of : Stage → StageFields
 fields_of (At r) = record { stage = 0; request = request_number r; bits = 0 }
