@@ -81,6 +81,7 @@ pub fn put_new(handle: &mut DeviceHandle, alloc: Global, config: DeviceConfig, b
     let Ok(device) = Box::new(alloc, device) else {
         return NO_MEMORY;
     };
+    // What the handle had is dropped.
     let _none = handle.replace(Handle::of(device)).into_box();
     DONE
 }

@@ -50,6 +50,7 @@ pub extern "C" fn fuota_receiver_new(handle: &mut ReceiverHandle, alloc: Global,
     let Ok(receiver) = Box::new(alloc, receiver) else {
         return NO_MEMORY;
     };
+    // What the handle had is dropped.
     let _none = handle.replace(Handle::of(receiver)).into_box();
     DONE
 }

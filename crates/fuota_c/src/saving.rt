@@ -110,6 +110,7 @@ pub fn put_back(
     let Ok(device) = Box::new(alloc, device) else {
         return NO_MEMORY;
     };
+    // What the handle had is dropped.
     let _none = handle.replace(Handle::of(device)).into_box();
     DONE
 }

@@ -70,6 +70,7 @@ pub extern "C" fn fuota_server_restore(
     let Ok(campaign) = Box::new(alloc, Campaign::of(server, count)) else {
         return NO_MEMORY;
     };
+    // What the handle had is dropped.
     let _none = handle.replace(Handle::of(campaign)).into_box();
     DONE
 }

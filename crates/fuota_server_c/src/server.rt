@@ -61,6 +61,7 @@ pub extern "C" fn fuota_server_new(
     let Ok(campaign) = Box::new(alloc, Campaign::of(server, count)) else {
         return NO_MEMORY;
     };
+    // What the handle had is dropped.
     let _none = handle.replace(Handle::of(campaign)).into_box();
     DONE
 }
