@@ -15,7 +15,7 @@ use Rattle.clap.specs.Simple.{App, Shape, built, built_leaf, entered, label_of, 
 use Rattle.clap.specs.Faults.{bundle_fault, check_fault, defaults_fault, flag_word_fault, level_fault, settle_fault, step_fault, turn_fault, walk_fault, word_fault}
 use Rattle.clap.proofs.OnLiterals.{clap_on_literals}
 use Rattle.campaign_generator.proofs.Decimals.{decimal_is_read}
-use Rattle.fuota_run.specs.Words.{Invocation, plays, payloads, generates, plays_two, asked, asked_by, device_by, device_of_word, direction_of_word, form, fuota, parsed, port_by, port_of_word, seed_by, seed_of_word, where_none}
+use Rattle.fuota_run.specs.Words.{Invocation, plays, payloads, generates, plays_two, asked, asked_by, device_by, device_of_word, direction_of_word, campaign_app, recover_app, replay_app, decode_app, generate_app, capture_app, campaigns_app, fuota, parsed, port_by, port_of_word, seed_by, seed_of_word, where_none}
 use Rattle.script_lines.specs.Numbers.{decimal_of, ◌>>=◌}
 use Rattle.wire_base.specs.declared.refusal.Direction.{Direction}
 use Rattle.fuota_run.specs.declared.forms.FileForm.TheVariants.{Replay, Decode, Capture}
@@ -156,64 +156,47 @@ reads_form program keyword s words fine there form =
     ∙ ap (asks_at []) (keeps top.top.rules (names_of top) keyword [] words)
     ∙ form
 
-abbrev pub leaf : Text → List Text → Shape
-leaf keyword names = built_leaf (form keyword names)
+-- a form of the program, as it is built
+abbrev pub shape : App → Shape
+shape app = built_leaf app.top
 
-abbrev pub of_campaign : Shape
-of_campaign = leaf (codes "campaign") (codes "IMAGE" ∷ codes "SCRIPT" ∷ [])
+-- the words after the keyword are read by its form
+abbrev pub Reads : Text → App → Type 0
+Reads keyword app = (program : Text) (words : List Text) → asked (program ∷ keyword ∷ words) ≡ asks keyword (shape app) nothing_held 1 words
 
-abbrev pub of_recover : Shape
-of_recover = leaf (codes "recover") (codes "IMAGE" ∷ codes "SCRIPT" ∷ codes "DEVICE" ∷ [])
+no_more : (keyword : Text) (s : Shape) (words : List Text)
+    → then_asked (where_none (or_else (level_fault s [] nothing_held words false []) []) (Some (keyword, finished s.rules (walk s.rules [] nothing_held words).held)))
+    ≡ asks keyword s nothing_held 1 words
+no_more keyword s words =
+    ap (λ (k : Kinds). then_asked (where_none k (Some (keyword, finished s.rules (walk s.rules [] nothing_held words).held)))) (or_else_none (level_fault s [] nothing_held words false []))
 
-abbrev pub of_replay : Shape
-of_replay = leaf (codes "replay") (codes "FILE" ∷ [])
-
-abbrev pub of_decode : Shape
-of_decode = leaf (codes "decode") (codes "PORT" ∷ codes "DIR" ∷ codes "FILE" ∷ [])
-
-abbrev pub of_generate : Shape
-of_generate = leaf (codes "generate") (codes "SEED" ∷ [])
-
-abbrev pub of_capture : Shape
-of_capture = leaf (codes "capture") (codes "FILE" ∷ [])
-
-abbrev pub of_campaigns : Shape
-of_campaigns = leaf (codes "campaigns") (codes "IMAGE_A" ∷ codes "IMAGE_B" ∷ codes "SCRIPT" ∷ [])
-
-pub reads_campaign : (program : Text) (words : List Text) → asked (program ∷ codes "campaign" ∷ words) ≡ asks (codes "campaign") of_campaign nothing_held 1 words
+pub reads_campaign : Reads (codes "campaign") campaign_app
 unfolding fuota clap_on_literals
-reads_campaign program words = reads_form program (codes "campaign") of_campaign words refl refl
-    (ap (λ (k : Kinds). then_asked (where_none k (Some (codes "campaign", finished of_campaign.rules (walk of_campaign.rules [] nothing_held words).held)))) (or_else_none (level_fault of_campaign [] nothing_held words false [])))
+reads_campaign program words = reads_form program (codes "campaign") (shape campaign_app) words refl refl (no_more (codes "campaign") (shape campaign_app) words)
 
-pub reads_recover : (program : Text) (words : List Text) → asked (program ∷ codes "recover" ∷ words) ≡ asks (codes "recover") of_recover nothing_held 1 words
+pub reads_recover : Reads (codes "recover") recover_app
 unfolding fuota clap_on_literals
-reads_recover program words = reads_form program (codes "recover") of_recover words refl refl
-    (ap (λ (k : Kinds). then_asked (where_none k (Some (codes "recover", finished of_recover.rules (walk of_recover.rules [] nothing_held words).held)))) (or_else_none (level_fault of_recover [] nothing_held words false [])))
+reads_recover program words = reads_form program (codes "recover") (shape recover_app) words refl refl (no_more (codes "recover") (shape recover_app) words)
 
-pub reads_replay : (program : Text) (words : List Text) → asked (program ∷ codes "replay" ∷ words) ≡ asks (codes "replay") of_replay nothing_held 1 words
+pub reads_replay : Reads (codes "replay") replay_app
 unfolding fuota clap_on_literals
-reads_replay program words = reads_form program (codes "replay") of_replay words refl refl
-    (ap (λ (k : Kinds). then_asked (where_none k (Some (codes "replay", finished of_replay.rules (walk of_replay.rules [] nothing_held words).held)))) (or_else_none (level_fault of_replay [] nothing_held words false [])))
+reads_replay program words = reads_form program (codes "replay") (shape replay_app) words refl refl (no_more (codes "replay") (shape replay_app) words)
 
-pub reads_decode : (program : Text) (words : List Text) → asked (program ∷ codes "decode" ∷ words) ≡ asks (codes "decode") of_decode nothing_held 1 words
+pub reads_decode : Reads (codes "decode") decode_app
 unfolding fuota clap_on_literals
-reads_decode program words = reads_form program (codes "decode") of_decode words refl refl
-    (ap (λ (k : Kinds). then_asked (where_none k (Some (codes "decode", finished of_decode.rules (walk of_decode.rules [] nothing_held words).held)))) (or_else_none (level_fault of_decode [] nothing_held words false [])))
+reads_decode program words = reads_form program (codes "decode") (shape decode_app) words refl refl (no_more (codes "decode") (shape decode_app) words)
 
-pub reads_generate : (program : Text) (words : List Text) → asked (program ∷ codes "generate" ∷ words) ≡ asks (codes "generate") of_generate nothing_held 1 words
+pub reads_generate : Reads (codes "generate") generate_app
 unfolding fuota clap_on_literals
-reads_generate program words = reads_form program (codes "generate") of_generate words refl refl
-    (ap (λ (k : Kinds). then_asked (where_none k (Some (codes "generate", finished of_generate.rules (walk of_generate.rules [] nothing_held words).held)))) (or_else_none (level_fault of_generate [] nothing_held words false [])))
+reads_generate program words = reads_form program (codes "generate") (shape generate_app) words refl refl (no_more (codes "generate") (shape generate_app) words)
 
-pub reads_capture : (program : Text) (words : List Text) → asked (program ∷ codes "capture" ∷ words) ≡ asks (codes "capture") of_capture nothing_held 1 words
+pub reads_capture : Reads (codes "capture") capture_app
 unfolding fuota clap_on_literals
-reads_capture program words = reads_form program (codes "capture") of_capture words refl refl
-    (ap (λ (k : Kinds). then_asked (where_none k (Some (codes "capture", finished of_capture.rules (walk of_capture.rules [] nothing_held words).held)))) (or_else_none (level_fault of_capture [] nothing_held words false [])))
+reads_capture program words = reads_form program (codes "capture") (shape capture_app) words refl refl (no_more (codes "capture") (shape capture_app) words)
 
-pub reads_campaigns : (program : Text) (words : List Text) → asked (program ∷ codes "campaigns" ∷ words) ≡ asks (codes "campaigns") of_campaigns nothing_held 1 words
+pub reads_campaigns : Reads (codes "campaigns") campaigns_app
 unfolding fuota clap_on_literals
-reads_campaigns program words = reads_form program (codes "campaigns") of_campaigns words refl refl
-    (ap (λ (k : Kinds). then_asked (where_none k (Some (codes "campaigns", finished of_campaigns.rules (walk of_campaigns.rules [] nothing_held words).held)))) (or_else_none (level_fault of_campaigns [] nothing_held words false [])))
+reads_campaigns program words = reads_form program (codes "campaigns") (shape campaigns_app) words refl refl (no_more (codes "campaigns") (shape campaigns_app) words)
 
 -- what is held after one name more
 abbrev behind : Shape → ℕ → Text → Held → Held
@@ -226,8 +209,8 @@ campaign_form : (program image script : Text) → IsName image → IsName script
 unfolding fuota asked_by clap_on_literals
 campaign_form program image script first second =
     reads_campaign program (image ∷ script ∷ [])
-    ∙ takes_name (codes "campaign") of_campaign nothing_held (behind of_campaign 1 image nothing_held) 1 2 image (script ∷ []) first refl refl
-    ∙ takes_name (codes "campaign") of_campaign (behind of_campaign 1 image nothing_held) (behind of_campaign 2 script (behind of_campaign 1 image nothing_held)) 2 3 script [] second refl refl
+    ∙ takes_name (codes "campaign") (shape campaign_app) nothing_held (behind (shape campaign_app) 1 image nothing_held) 1 2 image (script ∷ []) first refl refl
+    ∙ takes_name (codes "campaign") (shape campaign_app) (behind (shape campaign_app) 1 image nothing_held) (behind (shape campaign_app) 2 script (behind (shape campaign_app) 1 image nothing_held)) 2 3 script [] second refl refl
 
 -- a word that is read by what refuses each dash is a name
 name_of : {X : Type 0} (read : Text → Option X) (word : Text) (x : X) → ((more : Text) → read (45 ∷ more) ≡ None) → read word ≡ Some x → IsName word
@@ -264,19 +247,19 @@ recover_form : (program image script word : Text) (device : ℕ) → IsName imag
     → asked (program ∷ codes "recover" ∷ image ∷ script ∷ word ∷ []) ≡ Some (plays (Recover device) image script)
 unfolding fuota asked_by clap_on_literals
 recover_form program image script word device first second is =
-    let one = behind of_recover 1 image nothing_held in
-    let two = behind of_recover 2 script one in
+    let one = behind (shape recover_app) 1 image nothing_held in
+    let two = behind (shape recover_app) 2 script one in
     reads_recover program (image ∷ script ∷ word ∷ [])
-    ∙ takes_name (codes "recover") of_recover nothing_held one 1 2 image (script ∷ word ∷ []) first refl refl
-    ∙ takes_name (codes "recover") of_recover one two 2 3 script (word ∷ []) second refl refl
-    ∙ takes_name (codes "recover") of_recover two (behind of_recover 3 word two) 3 4 word [] (device_name word device is) refl refl
+    ∙ takes_name (codes "recover") (shape recover_app) nothing_held one 1 2 image (script ∷ word ∷ []) first refl refl
+    ∙ takes_name (codes "recover") (shape recover_app) one two 2 3 script (word ∷ []) second refl refl
+    ∙ takes_name (codes "recover") (shape recover_app) two (behind (shape recover_app) 3 word two) 3 4 word [] (device_name word device is) refl refl
     ∙ ap (recovers image script) is
 
 replay_form : (program file : Text) → IsName file → asked (program ∷ codes "replay" ∷ file ∷ []) ≡ Some (payloads Replay file)
 unfolding fuota asked_by clap_on_literals
 replay_form program file name =
     reads_replay program (file ∷ [])
-    ∙ takes_name (codes "replay") of_replay nothing_held (behind of_replay 1 file nothing_held) 1 2 file [] name refl refl
+    ∙ takes_name (codes "replay") (shape replay_app) nothing_held (behind (shape replay_app) 1 file nothing_held) 1 2 file [] name refl refl
 
 abbrev decodes : (file : Text) → Option ℕ → Option Direction → Option Invocation
 decodes file port direction = do
@@ -289,12 +272,12 @@ decode_form : (program port_word direction_word file : Text) (port : ℕ) (direc
     → asked (program ∷ codes "decode" ∷ port_word ∷ direction_word ∷ file ∷ []) ≡ Some (payloads (Decode port direction) file)
 unfolding fuota asked_by clap_on_literals
 decode_form program port_word direction_word file port direction first second name =
-    let one = behind of_decode 1 port_word nothing_held in
-    let two = behind of_decode 2 direction_word one in
+    let one = behind (shape decode_app) 1 port_word nothing_held in
+    let two = behind (shape decode_app) 2 direction_word one in
     reads_decode program (port_word ∷ direction_word ∷ file ∷ [])
-    ∙ takes_name (codes "decode") of_decode nothing_held one 1 2 port_word (direction_word ∷ file ∷ []) (port_name port_word port first) refl refl
-    ∙ takes_name (codes "decode") of_decode one two 2 3 direction_word (file ∷ []) (direction_name direction_word direction second) refl refl
-    ∙ takes_name (codes "decode") of_decode two (behind of_decode 3 file two) 3 4 file [] name refl refl
+    ∙ takes_name (codes "decode") (shape decode_app) nothing_held one 1 2 port_word (direction_word ∷ file ∷ []) (port_name port_word port first) refl refl
+    ∙ takes_name (codes "decode") (shape decode_app) one two 2 3 direction_word (file ∷ []) (direction_name direction_word direction second) refl refl
+    ∙ takes_name (codes "decode") (shape decode_app) two (behind (shape decode_app) 3 file two) 3 4 file [] name refl refl
     ∙ ap (λ (o : Option ℕ). decodes file o (direction_of_word direction_word)) first
     ∙ ap (decodes file (Some port)) second
 
@@ -308,25 +291,25 @@ generate_form : (program word : Text) (seed : ℕ) → seed_of_word word ≡ Som
 unfolding fuota asked_by clap_on_literals
 generate_form program word seed is =
     reads_generate program (word ∷ [])
-    ∙ takes_name (codes "generate") of_generate nothing_held (behind of_generate 1 word nothing_held) 1 2 word [] (seed_name word seed is) refl refl
+    ∙ takes_name (codes "generate") (shape generate_app) nothing_held (behind (shape generate_app) 1 word nothing_held) 1 2 word [] (seed_name word seed is) refl refl
     ∙ ap generates_by is
 
 capture_form : (program file : Text) → IsName file → asked (program ∷ codes "capture" ∷ file ∷ []) ≡ Some (payloads Capture file)
 unfolding fuota asked_by clap_on_literals
 capture_form program file name =
     reads_capture program (file ∷ [])
-    ∙ takes_name (codes "capture") of_capture nothing_held (behind of_capture 1 file nothing_held) 1 2 file [] name refl refl
+    ∙ takes_name (codes "capture") (shape capture_app) nothing_held (behind (shape capture_app) 1 file nothing_held) 1 2 file [] name refl refl
 
 campaigns_form : (program image_a image_b script : Text) → IsName image_a → IsName image_b → IsName script
     → asked (program ∷ codes "campaigns" ∷ image_a ∷ image_b ∷ script ∷ []) ≡ Some (plays_two image_a image_b script)
 unfolding fuota asked_by clap_on_literals
 campaigns_form program image_a image_b script first second third =
-    let one = behind of_campaigns 1 image_a nothing_held in
-    let two = behind of_campaigns 2 image_b one in
+    let one = behind (shape campaigns_app) 1 image_a nothing_held in
+    let two = behind (shape campaigns_app) 2 image_b one in
     reads_campaigns program (image_a ∷ image_b ∷ script ∷ [])
-    ∙ takes_name (codes "campaigns") of_campaigns nothing_held one 1 2 image_a (image_b ∷ script ∷ []) first refl refl
-    ∙ takes_name (codes "campaigns") of_campaigns one two 2 3 image_b (script ∷ []) second refl refl
-    ∙ takes_name (codes "campaigns") of_campaigns two (behind of_campaigns 3 script two) 3 4 script [] third refl refl
+    ∙ takes_name (codes "campaigns") (shape campaigns_app) nothing_held one 1 2 image_a (image_b ∷ script ∷ []) first refl refl
+    ∙ takes_name (codes "campaigns") (shape campaigns_app) one two 2 3 image_b (script ∷ []) second refl refl
+    ∙ takes_name (codes "campaigns") (shape campaigns_app) two (behind (shape campaigns_app) 3 script two) 3 4 script [] third refl refl
 
 seed_word : (seed : ℕ) → seed < 2 ^ 32 → seed_of_word (decimal seed) ≡ Some seed
 seed_word seed low =
@@ -369,20 +352,7 @@ port_word port low high =
     read_is (port_of_word (decimal port)) port (holds_at (λ p. reads (port_of_word (decimal p)) p) 200 4 port refl low (omega arith))
 
 pub words_are_forms : WordsAreForms
-words_are_forms = record {
-  campaign = campaign_form;
-  recover = recover_form;
-  replay = replay_form;
-  decode = decode_form;
-  generate = generate_form;
-  capture = capture_form;
-  campaigns = campaigns_form;
-  device_word = device_word;
-  port_word = port_word;
-  seed_word = seed_word;
-  down_word = refl;
-  up_word = refl;
-}
+words_are_forms = search (campaign_form, recover_form, replay_form, decode_form, generate_form, capture_form, campaigns_form, device_word, port_word, seed_word)
 
 -- ---- other counts
 
@@ -391,124 +361,115 @@ unfolding fuota asked_by clap_on_literals
 campaign_counts program [] are other = reads_campaign program []
 campaign_counts program (a ∷ []) are other =
     reads_campaign program (a ∷ [])
-    ∙ takes_name (codes "campaign") of_campaign nothing_held (behind of_campaign 1 a nothing_held) 1 2 a [] are.0 refl refl
+    ∙ takes_name (codes "campaign") (shape campaign_app) nothing_held (behind (shape campaign_app) 1 a nothing_held) 1 2 a [] are.0 refl refl
 campaign_counts program (a ∷ b ∷ []) are other = absurd (other refl)
 campaign_counts program (a ∷ b ∷ c ∷ more) are other =
-    let one = behind of_campaign 1 a nothing_held in
-    let two = behind of_campaign 2 b one in
+    let one = behind (shape campaign_app) 1 a nothing_held in
+    let two = behind (shape campaign_app) 2 b one in
     reads_campaign program (a ∷ b ∷ c ∷ more)
-    ∙ takes_name (codes "campaign") of_campaign nothing_held one 1 2 a (b ∷ c ∷ more) are.0 refl refl
-    ∙ takes_name (codes "campaign") of_campaign one two 2 3 b (c ∷ more) are.1.0 refl refl
-    ∙ takes_no_name (codes "campaign") of_campaign two 3 kind.UnknownArgument [] c more are.1.1.0 refl
+    ∙ takes_name (codes "campaign") (shape campaign_app) nothing_held one 1 2 a (b ∷ c ∷ more) are.0 refl refl
+    ∙ takes_name (codes "campaign") (shape campaign_app) one two 2 3 b (c ∷ more) are.1.0 refl refl
+    ∙ takes_no_name (codes "campaign") (shape campaign_app) two 3 kind.UnknownArgument [] c more are.1.1.0 refl
 
 replay_counts : (program : Text) (names : List Text) → AllByRecursion IsName names → length names ≢ 1 → asked (program ∷ codes "replay" ∷ names) ≡ None
 unfolding fuota asked_by clap_on_literals
 replay_counts program [] are other = reads_replay program []
 replay_counts program (a ∷ []) are other = absurd (other refl)
 replay_counts program (a ∷ b ∷ more) are other =
-    let one = behind of_replay 1 a nothing_held in
+    let one = behind (shape replay_app) 1 a nothing_held in
     reads_replay program (a ∷ b ∷ more)
-    ∙ takes_name (codes "replay") of_replay nothing_held one 1 2 a (b ∷ more) are.0 refl refl
-    ∙ takes_no_name (codes "replay") of_replay one 2 kind.UnknownArgument [] b more are.1.0 refl
+    ∙ takes_name (codes "replay") (shape replay_app) nothing_held one 1 2 a (b ∷ more) are.0 refl refl
+    ∙ takes_no_name (codes "replay") (shape replay_app) one 2 kind.UnknownArgument [] b more are.1.0 refl
 
 recover_counts : (program : Text) (names : List Text) → AllByRecursion IsName names → length names ≢ 3 → asked (program ∷ codes "recover" ∷ names) ≡ None
 unfolding fuota asked_by clap_on_literals
 recover_counts program [] are other = reads_recover program []
 recover_counts program (a ∷ []) are other =
     reads_recover program (a ∷ [])
-    ∙ takes_name (codes "recover") of_recover nothing_held (behind of_recover 1 a nothing_held) 1 2 a [] are.0 refl refl
+    ∙ takes_name (codes "recover") (shape recover_app) nothing_held (behind (shape recover_app) 1 a nothing_held) 1 2 a [] are.0 refl refl
 recover_counts program (a ∷ b ∷ []) are other =
-    let one = behind of_recover 1 a nothing_held in
+    let one = behind (shape recover_app) 1 a nothing_held in
     reads_recover program (a ∷ b ∷ [])
-    ∙ takes_name (codes "recover") of_recover nothing_held one 1 2 a (b ∷ []) are.0 refl refl
-    ∙ takes_name (codes "recover") of_recover one (behind of_recover 2 b one) 2 3 b [] are.1.0 refl refl
+    ∙ takes_name (codes "recover") (shape recover_app) nothing_held one 1 2 a (b ∷ []) are.0 refl refl
+    ∙ takes_name (codes "recover") (shape recover_app) one (behind (shape recover_app) 2 b one) 2 3 b [] are.1.0 refl refl
 recover_counts program (a ∷ b ∷ c ∷ []) are other = absurd (other refl)
 recover_counts program (a ∷ b ∷ c ∷ d ∷ more) are other =
-    let one = behind of_recover 1 a nothing_held in
-    let two = behind of_recover 2 b one in
-    let three = behind of_recover 3 c two in
+    let one = behind (shape recover_app) 1 a nothing_held in
+    let two = behind (shape recover_app) 2 b one in
+    let three = behind (shape recover_app) 3 c two in
     reads_recover program (a ∷ b ∷ c ∷ d ∷ more)
-    ∙ takes_name (codes "recover") of_recover nothing_held one 1 2 a (b ∷ c ∷ d ∷ more) are.0 refl refl
-    ∙ takes_name (codes "recover") of_recover one two 2 3 b (c ∷ d ∷ more) are.1.0 refl refl
-    ∙ takes_name (codes "recover") of_recover two three 3 4 c (d ∷ more) are.1.1.0 refl refl
-    ∙ takes_no_name (codes "recover") of_recover three 4 kind.UnknownArgument [] d more are.1.1.1.0 refl
+    ∙ takes_name (codes "recover") (shape recover_app) nothing_held one 1 2 a (b ∷ c ∷ d ∷ more) are.0 refl refl
+    ∙ takes_name (codes "recover") (shape recover_app) one two 2 3 b (c ∷ d ∷ more) are.1.0 refl refl
+    ∙ takes_name (codes "recover") (shape recover_app) two three 3 4 c (d ∷ more) are.1.1.0 refl refl
+    ∙ takes_no_name (codes "recover") (shape recover_app) three 4 kind.UnknownArgument [] d more are.1.1.1.0 refl
 
 decode_counts : (program : Text) (names : List Text) → AllByRecursion IsName names → length names ≢ 3 → asked (program ∷ codes "decode" ∷ names) ≡ None
 unfolding fuota asked_by clap_on_literals
 decode_counts program [] are other = reads_decode program []
 decode_counts program (a ∷ []) are other =
     reads_decode program (a ∷ [])
-    ∙ takes_name (codes "decode") of_decode nothing_held (behind of_decode 1 a nothing_held) 1 2 a [] are.0 refl refl
+    ∙ takes_name (codes "decode") (shape decode_app) nothing_held (behind (shape decode_app) 1 a nothing_held) 1 2 a [] are.0 refl refl
 decode_counts program (a ∷ b ∷ []) are other =
-    let one = behind of_decode 1 a nothing_held in
+    let one = behind (shape decode_app) 1 a nothing_held in
     reads_decode program (a ∷ b ∷ [])
-    ∙ takes_name (codes "decode") of_decode nothing_held one 1 2 a (b ∷ []) are.0 refl refl
-    ∙ takes_name (codes "decode") of_decode one (behind of_decode 2 b one) 2 3 b [] are.1.0 refl refl
+    ∙ takes_name (codes "decode") (shape decode_app) nothing_held one 1 2 a (b ∷ []) are.0 refl refl
+    ∙ takes_name (codes "decode") (shape decode_app) one (behind (shape decode_app) 2 b one) 2 3 b [] are.1.0 refl refl
 decode_counts program (a ∷ b ∷ c ∷ []) are other = absurd (other refl)
 decode_counts program (a ∷ b ∷ c ∷ d ∷ more) are other =
-    let one = behind of_decode 1 a nothing_held in
-    let two = behind of_decode 2 b one in
-    let three = behind of_decode 3 c two in
+    let one = behind (shape decode_app) 1 a nothing_held in
+    let two = behind (shape decode_app) 2 b one in
+    let three = behind (shape decode_app) 3 c two in
     reads_decode program (a ∷ b ∷ c ∷ d ∷ more)
-    ∙ takes_name (codes "decode") of_decode nothing_held one 1 2 a (b ∷ c ∷ d ∷ more) are.0 refl refl
-    ∙ takes_name (codes "decode") of_decode one two 2 3 b (c ∷ d ∷ more) are.1.0 refl refl
-    ∙ takes_name (codes "decode") of_decode two three 3 4 c (d ∷ more) are.1.1.0 refl refl
-    ∙ takes_no_name (codes "decode") of_decode three 4 kind.UnknownArgument [] d more are.1.1.1.0 refl
+    ∙ takes_name (codes "decode") (shape decode_app) nothing_held one 1 2 a (b ∷ c ∷ d ∷ more) are.0 refl refl
+    ∙ takes_name (codes "decode") (shape decode_app) one two 2 3 b (c ∷ d ∷ more) are.1.0 refl refl
+    ∙ takes_name (codes "decode") (shape decode_app) two three 3 4 c (d ∷ more) are.1.1.0 refl refl
+    ∙ takes_no_name (codes "decode") (shape decode_app) three 4 kind.UnknownArgument [] d more are.1.1.1.0 refl
 
 generate_counts : (program : Text) (names : List Text) → AllByRecursion IsName names → length names ≢ 1 → asked (program ∷ codes "generate" ∷ names) ≡ None
 unfolding fuota asked_by clap_on_literals
 generate_counts program [] are other = reads_generate program []
 generate_counts program (a ∷ []) are other = absurd (other refl)
 generate_counts program (a ∷ b ∷ more) are other =
-    let one = behind of_generate 1 a nothing_held in
+    let one = behind (shape generate_app) 1 a nothing_held in
     reads_generate program (a ∷ b ∷ more)
-    ∙ takes_name (codes "generate") of_generate nothing_held one 1 2 a (b ∷ more) are.0 refl refl
-    ∙ takes_no_name (codes "generate") of_generate one 2 kind.UnknownArgument [] b more are.1.0 refl
+    ∙ takes_name (codes "generate") (shape generate_app) nothing_held one 1 2 a (b ∷ more) are.0 refl refl
+    ∙ takes_no_name (codes "generate") (shape generate_app) one 2 kind.UnknownArgument [] b more are.1.0 refl
 
 capture_counts : (program : Text) (names : List Text) → AllByRecursion IsName names → length names ≢ 1 → asked (program ∷ codes "capture" ∷ names) ≡ None
 unfolding fuota asked_by clap_on_literals
 capture_counts program [] are other = reads_capture program []
 capture_counts program (a ∷ []) are other = absurd (other refl)
 capture_counts program (a ∷ b ∷ more) are other =
-    let one = behind of_capture 1 a nothing_held in
+    let one = behind (shape capture_app) 1 a nothing_held in
     reads_capture program (a ∷ b ∷ more)
-    ∙ takes_name (codes "capture") of_capture nothing_held one 1 2 a (b ∷ more) are.0 refl refl
-    ∙ takes_no_name (codes "capture") of_capture one 2 kind.UnknownArgument [] b more are.1.0 refl
+    ∙ takes_name (codes "capture") (shape capture_app) nothing_held one 1 2 a (b ∷ more) are.0 refl refl
+    ∙ takes_no_name (codes "capture") (shape capture_app) one 2 kind.UnknownArgument [] b more are.1.0 refl
 
 campaigns_counts : (program : Text) (names : List Text) → AllByRecursion IsName names → length names ≢ 3 → asked (program ∷ codes "campaigns" ∷ names) ≡ None
 unfolding fuota asked_by clap_on_literals
 campaigns_counts program [] are other = reads_campaigns program []
 campaigns_counts program (a ∷ []) are other =
     reads_campaigns program (a ∷ [])
-    ∙ takes_name (codes "campaigns") of_campaigns nothing_held (behind of_campaigns 1 a nothing_held) 1 2 a [] are.0 refl refl
+    ∙ takes_name (codes "campaigns") (shape campaigns_app) nothing_held (behind (shape campaigns_app) 1 a nothing_held) 1 2 a [] are.0 refl refl
 campaigns_counts program (a ∷ b ∷ []) are other =
-    let one = behind of_campaigns 1 a nothing_held in
+    let one = behind (shape campaigns_app) 1 a nothing_held in
     reads_campaigns program (a ∷ b ∷ [])
-    ∙ takes_name (codes "campaigns") of_campaigns nothing_held one 1 2 a (b ∷ []) are.0 refl refl
-    ∙ takes_name (codes "campaigns") of_campaigns one (behind of_campaigns 2 b one) 2 3 b [] are.1.0 refl refl
+    ∙ takes_name (codes "campaigns") (shape campaigns_app) nothing_held one 1 2 a (b ∷ []) are.0 refl refl
+    ∙ takes_name (codes "campaigns") (shape campaigns_app) one (behind (shape campaigns_app) 2 b one) 2 3 b [] are.1.0 refl refl
 campaigns_counts program (a ∷ b ∷ c ∷ []) are other = absurd (other refl)
 campaigns_counts program (a ∷ b ∷ c ∷ d ∷ more) are other =
-    let one = behind of_campaigns 1 a nothing_held in
-    let two = behind of_campaigns 2 b one in
-    let three = behind of_campaigns 3 c two in
+    let one = behind (shape campaigns_app) 1 a nothing_held in
+    let two = behind (shape campaigns_app) 2 b one in
+    let three = behind (shape campaigns_app) 3 c two in
     reads_campaigns program (a ∷ b ∷ c ∷ d ∷ more)
-    ∙ takes_name (codes "campaigns") of_campaigns nothing_held one 1 2 a (b ∷ c ∷ d ∷ more) are.0 refl refl
-    ∙ takes_name (codes "campaigns") of_campaigns one two 2 3 b (c ∷ d ∷ more) are.1.0 refl refl
-    ∙ takes_name (codes "campaigns") of_campaigns two three 3 4 c (d ∷ more) are.1.1.0 refl refl
-    ∙ takes_no_name (codes "campaigns") of_campaigns three 4 kind.UnknownArgument [] d more are.1.1.1.0 refl
+    ∙ takes_name (codes "campaigns") (shape campaigns_app) nothing_held one 1 2 a (b ∷ c ∷ d ∷ more) are.0 refl refl
+    ∙ takes_name (codes "campaigns") (shape campaigns_app) one two 2 3 b (c ∷ d ∷ more) are.1.0 refl refl
+    ∙ takes_name (codes "campaigns") (shape campaigns_app) two three 3 4 c (d ∷ more) are.1.1.0 refl refl
+    ∙ takes_no_name (codes "campaigns") (shape campaigns_app) three 4 kind.UnknownArgument [] d more are.1.1.1.0 refl
 
 nothing_asked : (program : Text) → asked (program ∷ []) ≡ None
 unfolding asked parsed fuota clap_on_literals asked_by
 nothing_asked program = refl
 
 pub other_counts : OtherCountsAreNone
-other_counts = record {
-  campaign = campaign_counts;
-  recover = recover_counts;
-  replay = replay_counts;
-  decode = decode_counts;
-  generate = generate_counts;
-  capture = capture_counts;
-  campaigns = campaigns_counts;
-  nothing = nothing_asked;
-}
+other_counts = search (campaign_counts, recover_counts, replay_counts, decode_counts, generate_counts, capture_counts, campaigns_counts, nothing_asked)

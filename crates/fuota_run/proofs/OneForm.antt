@@ -1,19 +1,19 @@
 -- The words of one form, as its command reads them by itself.
-use Rattle.std.proofs.Common.{◌≡◌, ◌≢◌, ◌≤◌, ◌-◌, Bool, true, false, ℕ, suc, length, take, drop, arith, List, [], ◌∷◌, codes, map, slice_get, get_or, inl, inr, is_some, Option, Some, None, option_and_then, unwrap_or, if◌then◌else◌, refl, sym, ap, subst, ◌∙◌}
+use Rattle.std.proofs.Common.{ap₂, ◌≡◌, ◌≢◌, ◌≤◌, ◌-◌, Bool, true, false, suc, length, take, drop, arith, List, [], ◌∷◌, codes, map, slice_get, get_or, inl, inr, is_some, Option, Some, None, option_and_then, unwrap_or, if◌then◌else◌, refl, sym, ap, subst, ◌∙◌}
 use Rattle.std.specs.Str.{bytes_eq}
 use Rattle.std.proofs.lemmas.List.{take_all}
 use Rattle.std.proofs.lemmas.Slice.Eq.{bytes_eq-Decides}
 use Rattle.clap.specs.declared.error.Error.{Error}
 use Rattle.clap.specs.declared.error.kind.ErrorKind.TheVariants as kind
 use Rattle.clap.specs.Kinds.{Kinds, HasKind}
-use Rattle.clap.specs.Walk.{Held, Row, Text, nothing_held, walk}
-use Rattle.clap.specs.Simple.{App, Shape, built_leaf, entered, matches_of}
+use Rattle.clap.specs.Walk.{Held, Row, Text, finished, nothing_held, walk}
+use Rattle.clap.specs.Simple.{App, Shape, entered, matches_of}
 use Rattle.clap.specs.Faults.{built_fault, entered_fault, fault_of, level_fault}
 use Rattle.clap.specs.declared.parser.matches.ArgMatches.{ArgMatches}
 use Rattle.clap.specs.Words.{HasMatchesOf, found_of, is_simple, is_simple_and_free, kind_of, rows_of}
 use Rattle.clap.proofs.OnLiterals.{clap_on_literals}
 use Rattle.fuota_run.specs.Words.{Invocation, asked, asked_by, campaign_app, recover_app, replay_app, decode_app, generate_app, capture_app, campaigns_app, form_named, where_none}
-use Rattle.fuota_run.proofs.FormWords.{of_campaign, of_recover, of_replay, of_decode, of_generate, of_capture, of_campaigns, reads_campaign, reads_recover, reads_replay, reads_decode, reads_generate, reads_capture, reads_campaigns}
+use Rattle.fuota_run.proofs.FormWords.{shape, Reads, reads_campaign, reads_recover, reads_replay, reads_decode, reads_generate, reads_capture, reads_campaigns}
 use Rattle.fuota_run.proofs.CommandLine.{refused_by}
 
 abbrev then_asked : Option (Text × List Row) → Option Invocation
@@ -35,67 +35,16 @@ abbrev AsksAlone : Text → App → Type 0
 AsksAlone keyword app = (is_simple app ≡ true) × (is_simple_and_free app ≡ true) × ((program : Text) (words : List Text) → asked (program ∷ keyword ∷ words)
     ≡ then_asked (where_none (fault_of app (keyword ∷ words)) (Some (keyword, matches_of app (keyword ∷ words)))))
 
-campaign_alone : AsksAlone (codes "campaign") campaign_app
-unfolding clap_on_literals
-campaign_alone = (
-  refl,
-  refl,
-  λ program words. reads_campaign program words
-      ∙ sym (ap (λ (k : Kinds). then_asked (where_none k (Some (codes "campaign", matches_of campaign_app (codes "campaign" ∷ words))))) (alone_fault of_campaign nothing_held words)),
-)
-
-recover_alone : AsksAlone (codes "recover") recover_app
-unfolding clap_on_literals
-recover_alone = (
-  refl,
-  refl,
-  λ program words. reads_recover program words
-      ∙ sym (ap (λ (k : Kinds). then_asked (where_none k (Some (codes "recover", matches_of recover_app (codes "recover" ∷ words))))) (alone_fault of_recover nothing_held words)),
-)
-
-replay_alone : AsksAlone (codes "replay") replay_app
-unfolding clap_on_literals
-replay_alone = (
-  refl,
-  refl,
-  λ program words. reads_replay program words
-      ∙ sym (ap (λ (k : Kinds). then_asked (where_none k (Some (codes "replay", matches_of replay_app (codes "replay" ∷ words))))) (alone_fault of_replay nothing_held words)),
-)
-
-decode_alone : AsksAlone (codes "decode") decode_app
-unfolding clap_on_literals
-decode_alone = (
-  refl,
-  refl,
-  λ program words. reads_decode program words
-      ∙ sym (ap (λ (k : Kinds). then_asked (where_none k (Some (codes "decode", matches_of decode_app (codes "decode" ∷ words))))) (alone_fault of_decode nothing_held words)),
-)
-
-generate_alone : AsksAlone (codes "generate") generate_app
-unfolding clap_on_literals
-generate_alone = (
-  refl,
-  refl,
-  λ program words. reads_generate program words
-      ∙ sym (ap (λ (k : Kinds). then_asked (where_none k (Some (codes "generate", matches_of generate_app (codes "generate" ∷ words))))) (alone_fault of_generate nothing_held words)),
-)
-
-capture_alone : AsksAlone (codes "capture") capture_app
-unfolding clap_on_literals
-capture_alone = (
-  refl,
-  refl,
-  λ program words. reads_capture program words
-      ∙ sym (ap (λ (k : Kinds). then_asked (where_none k (Some (codes "capture", matches_of capture_app (codes "capture" ∷ words))))) (alone_fault of_capture nothing_held words)),
-)
-
-campaigns_alone : AsksAlone (codes "campaigns") campaigns_app
-unfolding clap_on_literals
-campaigns_alone = (
-  refl,
-  refl,
-  λ program words. reads_campaigns program words
-      ∙ sym (ap (λ (k : Kinds). then_asked (where_none k (Some (codes "campaigns", matches_of campaigns_app (codes "campaigns" ∷ words))))) (alone_fault of_campaigns nothing_held words)),
+-- it asks the same as the program, whose form it is
+alone_of : (keyword : Text) (app : App) → is_simple app ≡ true → is_simple_and_free app ≡ true → Reads keyword app
+    → ((words : List Text) → fault_of app (keyword ∷ words) ≡ level_fault (shape app) [] nothing_held words false [])
+    → ((words : List Text) → matches_of app (keyword ∷ words) ≡ finished (shape app).rules (walk (shape app).rules [] nothing_held words).held)
+    → AsksAlone keyword app
+alone_of keyword app simple free reads fault found = (
+  simple,
+  free,
+  λ program words. reads program words
+      ∙ sym (ap₂ (λ (k : Kinds) (rows : List Row). then_asked (where_none k (Some (keyword, rows)))) (fault words) (found words)),
 )
 
 -- one keyword more is tried
@@ -108,11 +57,15 @@ tried keyword lit one app other alone next named = of_test (bytes_eq keyword lit
     of_test false e is = next is
 
 form_alone : (keyword : Text) (app : App) → form_named keyword ≡ Some app → AsksAlone keyword app
-unfolding form_named
+unfolding form_named clap_on_literals
 form_alone keyword app named =
-    tried keyword _ _ app _ campaign_alone (tried keyword _ _ app _ recover_alone (tried keyword _ _ app _ replay_alone
-    (tried keyword _ _ app _ decode_alone (tried keyword _ _ app _ generate_alone (tried keyword _ _ app _ capture_alone
-    (tried keyword _ _ app _ campaigns_alone (λ none. absurd cc))))))) named
+    (tried keyword _ _ app _ (alone_of (codes "campaign") campaign_app refl refl reads_campaign (alone_fault (shape campaign_app) nothing_held) (λ words. refl))
+    (tried keyword _ _ app _ (alone_of (codes "recover") recover_app refl refl reads_recover (alone_fault (shape recover_app) nothing_held) (λ words. refl))
+    (tried keyword _ _ app _ (alone_of (codes "replay") replay_app refl refl reads_replay (alone_fault (shape replay_app) nothing_held) (λ words. refl))
+    (tried keyword _ _ app _ (alone_of (codes "decode") decode_app refl refl reads_decode (alone_fault (shape decode_app) nothing_held) (λ words. refl))
+    (tried keyword _ _ app _ (alone_of (codes "generate") generate_app refl refl reads_generate (alone_fault (shape generate_app) nothing_held) (λ words. refl))
+    (tried keyword _ _ app _ (alone_of (codes "capture") capture_app refl refl reads_capture (alone_fault (shape capture_app) nothing_held) (λ words. refl))
+    (tried keyword _ _ app _ (alone_of (codes "campaigns") campaigns_app refl refl reads_campaigns (alone_fault (shape campaigns_app) nothing_held) (λ words. refl)) (λ none. absurd cc)))))))) named
 
 -- the first of the words names a form, whose command reads them
 pub asked_alone : {X : Type 0} (text : X → Text) (app : App) (program : Text) (xs : List X) (m : ArgMatches) (x : X)

@@ -14,7 +14,7 @@ use Rattle.fuota_run.specs.declared.status.Status.{Status}
 use Rattle.fuota_run.specs.declared.status.Status.TheVariants as status
 use Rattle.fuota_run.specs.Outside.{Held}
 use Rattle.fuota_run.specs.Answer.{Answer, answer, IsAnswer}
-use Rattle.fuota_run.specs.Ending.{AppendsAnswer}
+use Rattle.fuota_run.specs.Ending.{AppendsAnswer, WhereNoneFails}
 use Rattle.fuota_run.specs.Headline.{IsCampaignRun, IsWritten, IsRecoveryRun}
 use Rattle.fuota_run.proofs.HeadlineAnswered.{answered, recovery_answered}
 
@@ -22,6 +22,12 @@ use Rattle.fuota_run.proofs.HeadlineAnswered.{answered, recovery_answered}
 pub if_some_map : {T : Type 0} {P Q : T → Type 0} (o : Option T) → ((x : T) → P x → Q x) → IfSome o P → IfSome o Q
 if_some_map (Some x) turns holds = turns x holds
 if_some_map None turns holds = tt
+
+-- what the answer makes true, where no call failed
+pub where_none_map : {P Q : Held → Type 0} (held : Option Held) (files_before files_after out_before out_after : ℕ) (s : Status) → ((h : Held) → P h → Q h)
+    → WhereNoneFails held files_before files_after out_before out_after s P → WhereNoneFails held files_before files_after out_before out_after s Q
+where_none_map held files_before files_after out_before out_after s turns =
+    if_some_map held (λ h exact quiet sound enough. turns h (exact quiet sound enough))
 
 -- the answer that was appended is this one
 pub written : (words : List (List ℕ)) (held : Held) (s : Status) (old new : Option (List ℕ)) (one : Answer)

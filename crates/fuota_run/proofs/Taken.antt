@@ -3,8 +3,9 @@ use Rattle.std.proofs.Common.{◌≡◌, ℕ, List, length, Option, None, Some, 
 use Rattle.fuota_run.specs.declared.source.SourceError.{SourceError}
 use Rattle.fuota_run.specs.declared.source.SourceError.TheVariants as error
 use Rattle.fuota_run.specs.declared.status.Status.TheVariants as status
-use Rattle.fuota_run.specs.Outside.{Held, IsReadSoFar}
+use Rattle.fuota_run.specs.Outside.{Held, HasRisen, IsReadSoFar}
 use Rattle.fuota_run.specs.Source.{IsTaken}
+use Rattle.fuota_run.specs.HeldReading.{ReadsSource}
 use Rattle.fuota_run.specs.Answer.{Answer}
 use Rattle.fuota_run.specs.HeldAnswer.{IsUnreadAnswer}
 
@@ -20,6 +21,20 @@ long_failed n is = cc
 
 pub ok_err : {T : Type 0} {x : T} {e : SourceError} → Ok x ≡ Err e → ⊥
 ok_err is = cc
+
+-- a reading that failed, where a fault was counted and the files are unchanged
+pub read_failed : {T : Type 0} {finds : T → Type 0} {held now : Option Held} {faults faults_now limit : ℕ} {left : Option (List ℕ)} {name : List ℕ}
+    → HasRisen faults faults_now → now ≡ held → ReadsSource finds held now faults faults_now left name limit (Err error.Failed)
+read_failed risen same = record {
+  found = tt;
+  end = tt;
+  long = λ taken is. absurd (failed_long _ is);
+  taken = λ taken is. absurd (failed_long _ is);
+  consumed = λ taken is. absurd (failed_long _ is);
+  failed = λ is. risen;
+  quiet = λ other. absurd (other refl);
+  same = same;
+}
 
 -- what was read so far was taken
 pub taken_so_far : (held : Option Held) (name bytes : List ℕ) (taken : ℕ) (left : Option (List ℕ)) → length bytes ≡ taken → IsReadSoFar held name bytes left → IsTaken held name taken left

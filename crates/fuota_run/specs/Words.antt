@@ -82,16 +82,20 @@ pub data Invocation : Type 0 where
   generates : (seed : ℕ) → Invocation
   plays_two : (image_a image_b script : List ℕ) → Invocation
 
+-- a number from the first to the last
+abbrev pub within : (first last n : ℕ) → Option ℕ
+within first last n = if nat_le first n && nat_le n last then Some n else None
+
 -- a decimal from 200 to 203
 abbrev pub port_by : ℕ → Option ℕ
-port_by port = if nat_le 200 port && nat_le port 203 then Some port else None
+port_by port = within 200 203 port
 
 abbrev pub port_of_word : Text → Option ℕ
 port_of_word word = decimal_of word >>= port_by
 
 -- a decimal from 1 to 64
 abbrev pub device_by : ℕ → Option ℕ
-device_by device = if nat_le 1 device && nat_le device max_devices then Some device else None
+device_by device = within 1 max_devices device
 
 abbrev pub device_of_word : Text → Option ℕ
 device_of_word word = decimal_of word >>= device_by

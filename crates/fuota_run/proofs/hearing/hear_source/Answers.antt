@@ -1,9 +1,9 @@
-use Rattle.std.proofs.Common.{◌≡◌, ℕ, ◌+◌, rules, [], ◌++◌, refl, sym, subst, ◌∙◌, arith, length-append}
+use Rattle.std.proofs.Common.{ℕ, ◌+◌, rules, [], ◌++◌, refl, sym, subst, ◌∙◌, arith, length-append}
 use Rattle.std.proofs.lemmas.List.{length-take}
 use Rattle.script_lines.proofs.Heard.{heard_none}
 use Rattle.fuota_run.specs.Outside.{HasRisen}
 use Rattle.fuota_run.proofs.ReadOn.{none_read, reads_on, all_read, on_ok, on_err, too_long}
-use Rattle.fuota_run.proofs.Taken.{taken_so_far, same_taken, failed_long, ok_err, long_failed}
+use Rattle.fuota_run.proofs.Taken.{taken_so_far, same_taken, read_failed, ok_err, long_failed}
 use Rattle.fuota_run.proofs.hearing.hear_source.Goals as goal
 
 pub loop-taken-init : goal.loop-taken-init
@@ -58,31 +58,16 @@ pub returns-in-Ok-eq0-clause-no_memory : goal.returns-in-Ok-eq0-clause-no_memory
 returns-in-Ok-eq0-clause-no_memory g c = λ is. cc
 
 pub returns-then-is_err-clause-reads : goal.returns-then-is_err-clause-reads
-returns-then-is_err-clause-reads g c = record {
-  found = tt;
-  end = tt;
-  long = λ taken is. absurd (failed_long _ is);
-  taken = λ taken is. absurd (failed_long _ is);
-  consumed = λ taken is. absurd (failed_long _ is);
-  failed = λ is. on_err c.choose.result (sym c.is_err.ensures.value ∙ c.if-is_err.true) c.choose.ensures.cause.0;
-  quiet = λ other. absurd (other refl);
-  same = c.choose.ensures.held;
-}
+returns-then-is_err-clause-reads g c =
+    read_failed (on_err c.choose.result (sym c.is_err.ensures.value ∙ c.if-is_err.true) c.choose.ensures.cause.0) c.choose.ensures.held
 
 pub returns-then-is_err-clause-no_memory : goal.returns-then-is_err-clause-no_memory
 returns-then-is_err-clause-no_memory g c = λ is. cc
 
 pub returns-in-Err-clause-reads : goal.returns-in-Err-clause-reads
-returns-in-Err-clause-reads g c = record {
-  found = tt;
-  end = tt;
-  long = λ taken is. absurd (failed_long _ is);
-  taken = λ taken is. absurd (failed_long _ is);
-  consumed = λ taken is. absurd (failed_long _ is);
-  failed = λ is. subst (λ (n : ℕ). HasRisen n (g.F.Files.faults c.hear_some.new.files)) c.loop-taken.invariant.quiet c.in-Err.ensures.failed;
-  quiet = λ other. absurd (other refl);
-  same = c.hear_some.ensures.held ∙ c.loop-taken.invariant.held;
-}
+returns-in-Err-clause-reads g c =
+    read_failed (subst (λ (n : ℕ). HasRisen n (g.F.Files.faults c.hear_some.new.files)) c.loop-taken.invariant.quiet c.in-Err.ensures.failed)
+    (c.hear_some.ensures.held ∙ c.loop-taken.invariant.held)
 
 pub returns-in-Err-clause-no_memory : goal.returns-in-Err-clause-no_memory
 returns-in-Err-clause-no_memory g c = λ is. cc

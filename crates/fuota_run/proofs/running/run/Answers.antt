@@ -3,7 +3,7 @@ use Rattle.std.specs.Io.KnownBytes.{Appends}
 use Rattle.fuota_run.specs.Outside.{AppendsFront}
 use Rattle.fuota_run.specs.HeldAnswer.{answer_in}
 use Rattle.fuota_run.proofs.AnswerLemmas.{ends_written, exact_of, front_of}
-use Rattle.fuota_run.proofs.RunHeadline.{if_some_map, campaign_run, recovery_run}
+use Rattle.fuota_run.proofs.RunHeadline.{where_none_map, campaign_run, recovery_run}
 use Rattle.fuota_run.proofs.CaptureAnswered.{capture_run}
 use Rattle.fuota_run.proofs.PairAnswered.{pair_run}
 use Rattle.fuota_run.proofs.running.run.Goals as goal
@@ -14,24 +14,16 @@ returns-in-Ok-write_text-clause-exact g c =
     exact_of _ _ _ _ _ _ _ (answer_in c.in-Ok.answer) _ _ c.in-Ok.ensures.answer written
 
 pub returns-in-Ok-write_text-clause-headline : goal.returns-in-Ok-write_text-clause-headline
-returns-in-Ok-write_text-clause-headline g c =
-    if_some_map (g.F.Files.held c.args.files.now) (λ held exact quiet sound enough. campaign_run _ held _ _ _ (exact quiet sound enough))
-    (returns-in-Ok-write_text-clause-exact g c)
+returns-in-Ok-write_text-clause-headline g c = where_none_map _ _ _ _ _ _ (λ held. campaign_run _ held _ _ _) (returns-in-Ok-write_text-clause-exact g c)
 
 pub returns-in-Ok-write_text-clause-recovery : goal.returns-in-Ok-write_text-clause-recovery
-returns-in-Ok-write_text-clause-recovery g c =
-    if_some_map (g.F.Files.held c.args.files.now) (λ held exact quiet sound enough. recovery_run _ held _ _ _ (exact quiet sound enough))
-    (returns-in-Ok-write_text-clause-exact g c)
+returns-in-Ok-write_text-clause-recovery g c = where_none_map _ _ _ _ _ _ (λ held. recovery_run _ held _ _ _) (returns-in-Ok-write_text-clause-exact g c)
 
 pub returns-in-Ok-write_text-clause-capture : goal.returns-in-Ok-write_text-clause-capture
-returns-in-Ok-write_text-clause-capture g c =
-    if_some_map (g.F.Files.held c.args.files.now) (λ held exact quiet sound enough. capture_run _ held _ _ _ (exact quiet sound enough))
-    (returns-in-Ok-write_text-clause-exact g c)
+returns-in-Ok-write_text-clause-capture g c = where_none_map _ _ _ _ _ _ (λ held. capture_run _ held _ _ _) (returns-in-Ok-write_text-clause-exact g c)
 
 pub returns-in-Ok-write_text-clause-pair : goal.returns-in-Ok-write_text-clause-pair
-returns-in-Ok-write_text-clause-pair g c =
-    if_some_map (g.F.Files.held c.args.files.now) (λ held exact quiet sound enough. pair_run _ held _ _ _ (exact quiet sound enough))
-    (returns-in-Ok-write_text-clause-exact g c)
+returns-in-Ok-write_text-clause-pair g c = where_none_map _ _ _ _ _ _ (λ held. pair_run _ held _ _ _) (returns-in-Ok-write_text-clause-exact g c)
 
 pub returns-in-Ok-write_text-clause-ends : goal.returns-in-Ok-write_text-clause-ends
 returns-in-Ok-write_text-clause-ends g c =

@@ -1,9 +1,8 @@
-use Rattle.std.proofs.Common.{◌≡◌, ◌≢◌, ◌+◌, ℕ, [], Err, refl, sym, ap, subst, ◌∙◌, arith, rules}
+use Rattle.std.proofs.Common.{ℕ, sym, subst, ◌∙◌, arith, rules}
 use Rattle.fuota_run.specs.Outside.{HasRisen}
-use Rattle.fuota_run.specs.declared.source.SourceError.{SourceError}
 use Rattle.fuota_run.specs.declared.source.SourceError.TheVariants as error
 use Rattle.fuota_run.proofs.ReadOn.{none_read, all_read, on_ok, on_err, too_long}
-use Rattle.fuota_run.proofs.Taken.{taken_so_far, same_taken, failed_long, ok_err, long_failed}
+use Rattle.fuota_run.proofs.Taken.{taken_so_far, same_taken, read_failed, ok_err, long_failed}
 use Rattle.fuota_run.proofs.source.read_source.Goals as goal
 
 pub loop-files-init : goal.loop-files-init
@@ -18,16 +17,8 @@ loop-files-init g c = record {
 }
 
 pub returns-then-is_err : goal.returns-then-is_err
-returns-then-is_err g c = record {
-  found = tt;
-  end = tt;
-  long = λ taken is. absurd (failed_long _ is);
-  taken = λ taken is. absurd (failed_long _ is);
-  consumed = λ taken is. absurd (failed_long _ is);
-  failed = λ is. on_err c.choose.result (sym c.is_err.ensures.value ∙ c.if-is_err.true) c.choose.ensures.cause.0;
-  quiet = λ other. absurd (other refl);
-  same = c.choose.ensures.held;
-}
+returns-then-is_err g c =
+    read_failed (on_err c.choose.result (sym c.is_err.ensures.value ∙ c.if-is_err.true) c.choose.ensures.cause.0) c.choose.ensures.held
 
 pub returns-in-Ok-eq0 : goal.returns-in-Ok-eq0
 returns-in-Ok-eq0 g c = record {
