@@ -1,6 +1,6 @@
 //! The text of `capture` for a file of JSON lines: what each says, and the state of a device that hears those for it.
 
-ghost use Rattle.std.specs.Prelude.{◌≡◌, ◌+◌, ◌<◌, ◌≤◌, [], ◌++◌, List, ℕ, IsTrue, is_some, None, Ok, IfOk, IfErr, OnOk, codes, string_bytes};
+ghost use Rattle.std.specs.Prelude.{◌≡◌, ◌+◌, ◌<◌, ◌≤◌, [], ◌++◌, List, ℕ, None, Ok, IfOk, IfErr, OnOk, codes, string_bytes};
 ghost use Rattle.script_lines.specs.Lines.{lines_of};
 ghost use Rattle.device_core.specs.Device.{DeviceState};
 ghost use Rattle.device_core.specs.HeldDevice.{Becomes};
@@ -75,12 +75,22 @@ impl HearsLine for Capturing {
 
     ghost hears = { HearsCaptured };
 
+    /// Hears a line, and keeps its text or its fault.
     fn line(&mut self, line: &[u8]) {
-        self.hear(line);
+        match self.kept {
+            Some(_) => {}
+            None => match &mut self.caught {
+                Some(caught) => match catch_line(self.alloc, caught, self.lines, line) {
+                    Ok(()) => self.lines += 1,
+                    Err(error) => self.kept = Some(error),
+                },
+                None => self.start(line),
+            },
+        }
     }
 
     fn is_over(&self) -> bool {
-        self.is_kept()
+        self.kept.is_some()
     }
 }
 
@@ -95,30 +105,6 @@ impl Capturing {
             caught: None,
             kept: None,
         }
-    }
-
-    /// Hears a line, and keeps its text or its fault.
-    fn hear(&mut self, line: &[u8])
-        ensures { HearsCaptured self.old line.now self.new }
-    {
-        match self.kept {
-            Some(_) => {}
-            None => match &mut self.caught {
-                Some(caught) => match catch_line(self.alloc, caught, self.lines, line) {
-                    Ok(()) => self.lines += 1,
-                    Err(error) => self.kept = Some(error),
-                },
-                None => self.start(line),
-            },
-        }
-    }
-
-    /// Says whether a line was refused, or memory was missing.
-    fn is_kept(&self) -> bool
-        ensures kept { result ≡ is_some self.now.kept }
-        ensures stays { IsTrue result → (line : List ℕ) → HearsCaptured self.now line self.now }
-    {
-        self.kept.is_some()
     }
 
     /// Hears the header.

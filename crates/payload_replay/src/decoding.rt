@@ -1,6 +1,6 @@
 //! The text of `decode` for a file of payloads, one a line.
 
-ghost use Rattle.std.specs.Prelude.{◌≡◌, ℕ, ◌+◌, ◌<◌, ◌≤◌, [], List, ◌++◌, codes, string_bytes, IsTrue, is_some, Ok, IfOk, IfErr, OnOk};
+ghost use Rattle.std.specs.Prelude.{◌≡◌, ℕ, ◌+◌, ◌<◌, ◌≤◌, [], List, ◌++◌, codes, string_bytes, Ok, IfOk, IfErr, OnOk};
 ghost use Rattle.std.specs.Fmt.{decimal};
 ghost use Rattle.package_grammar.specs.Reading.{reading_of};
 ghost use Rattle.script_lines.specs.Lines.{lines_of};
@@ -63,12 +63,26 @@ impl HearsLine for Decoding {
 
     ghost hears = { HearsDecoded };
 
+    /// Hears a line, and keeps its text or its fault.
     fn line(&mut self, line: &[u8]) {
-        self.hear(line);
+        match self.kept {
+            Some(_) => {}
+            None => match decode_line(
+                self.port,
+                self.dir,
+                self.lines,
+                line,
+                &mut self.room,
+                &mut self.text,
+            ) {
+                Ok(()) => self.lines += 1,
+                Err(error) => self.kept = Some(error),
+            },
+        }
     }
 
     fn is_over(&self) -> bool {
-        self.is_kept()
+        self.kept.is_some()
     }
 }
 
@@ -88,34 +102,6 @@ impl Decoding {
                 text: String::new(alloc),
             },
         }
-    }
-
-    /// Hears a line, and keeps its text or its fault.
-    fn hear(&mut self, line: &[u8])
-        ensures { HearsDecoded self.old line.now self.new }
-    {
-        match self.kept {
-            Some(_) => {}
-            None => match decode_line(
-                self.port,
-                self.dir,
-                self.lines,
-                line,
-                &mut self.room,
-                &mut self.text,
-            ) {
-                Ok(()) => self.lines += 1,
-                Err(error) => self.kept = Some(error),
-            },
-        }
-    }
-
-    /// Says whether a line was refused, or memory was missing.
-    fn is_kept(&self) -> bool
-        ensures kept { result ≡ is_some self.now.kept }
-        ensures stays { IsTrue result → (line : List ℕ) → HearsDecoded self.now line self.now }
-    {
-        self.kept.is_some()
     }
 
     /// Returns the whole text of a file, after all its lines. `LineError::Line` names the first line that is refused, with

@@ -1,6 +1,6 @@
 //! The text of `replay` for a file of captured payloads: the state of a device that hears them.
 
-ghost use Rattle.std.specs.Prelude.{◌≡◌, ◌+◌, ◌<◌, ◌≤◌, [], ◌++◌, List, ℕ, IsTrue, is_some, Ok, IfOk, IfErr, OnOk, codes};
+ghost use Rattle.std.specs.Prelude.{◌≡◌, ◌+◌, ◌<◌, ◌≤◌, [], ◌++◌, List, ℕ, Ok, IfOk, IfErr, OnOk, codes};
 ghost use Rattle.script_lines.specs.Lines.{lines_of};
 ghost use Rattle.device_core.specs.Device.{DeviceState};
 ghost use Rattle.device_core.specs.HeldDevice.{DeviceStands, Becomes};
@@ -54,12 +54,22 @@ impl HearsLine for Replaying {
 
     ghost hears = { HearsReplayed };
 
+    /// Hears a line, and keeps its fault.
     fn line(&mut self, line: &[u8]) {
-        self.hear(line);
+        match self.kept {
+            Some(_) => {}
+            None => match &mut self.device {
+                Some(device) => match hear_line(device, self.lines, line, &mut self.room) {
+                    Ok(()) => self.lines += 1,
+                    Err(error) => self.kept = Some(error),
+                },
+                None => self.start(line),
+            },
+        }
     }
 
     fn is_over(&self) -> bool {
-        self.is_kept()
+        self.kept.is_some()
     }
 }
 
@@ -75,30 +85,6 @@ impl Replaying {
             kept: None,
             room: [0; MAX_HEX_BYTES],
         }
-    }
-
-    /// Hears a line, and keeps its fault.
-    fn hear(&mut self, line: &[u8])
-        ensures { HearsReplayed self.old line.now self.new }
-    {
-        match self.kept {
-            Some(_) => {}
-            None => match &mut self.device {
-                Some(device) => match hear_line(device, self.lines, line, &mut self.room) {
-                    Ok(()) => self.lines += 1,
-                    Err(error) => self.kept = Some(error),
-                },
-                None => self.start(line),
-            },
-        }
-    }
-
-    /// Says whether a line was refused, or memory was missing.
-    fn is_kept(&self) -> bool
-        ensures kept { result ≡ is_some self.now.kept }
-        ensures stays { IsTrue result → (line : List ℕ) → HearsReplayed self.now line self.now }
-    {
-        self.kept.is_some()
     }
 
     /// Hears the header.

@@ -4,7 +4,7 @@ use Rattle.device_core.specs.HeldDevice.{HeldDevice}
 use Rattle.payload_replay.specs.HeldHeaded.{HeldHeaded}
 use Rattle.payload_replay.specs.HeldReplaying.{HearsReplayed}
 use Rattle.payload_replay.proofs.ReplayLines.{replayed_heard, replayed_refused, replayed_kept}
-use Rattle.payload_replay.proofs.replaying.Replaying.hear.Goals as goal
+use Rattle.payload_replay.proofs.replaying.ReplayingHearsLine.line.Goals as goal
 
 pub returns-in-Some : goal.returns-in-Some
 returns-in-Some c =

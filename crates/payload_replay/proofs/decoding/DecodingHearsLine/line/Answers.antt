@@ -1,7 +1,7 @@
 use Rattle.std.proofs.Common.{◌≡◌, ◌+◌, ◌∙◌, Some, sym, ap, subst}
 use Rattle.payload_replay.specs.HeldDecoding.{HeldDecoding, HearsDecoded}
 use Rattle.payload_replay.proofs.Payloads.{decoded_taken, decoded_refused, decoded_kept}
-use Rattle.payload_replay.proofs.decoding.Decoding.hear.Goals as goal
+use Rattle.payload_replay.proofs.decoding.DecodingHearsLine.line.Goals as goal
 
 pub returns-in-Some : goal.returns-in-Some
 returns-in-Some c =

@@ -2,7 +2,7 @@ use Rattle.std.proofs.Common.{◌≡◌, ◌+◌, ◌∙◌, Some, sym, ap, subs
 use Rattle.payload_replay.specs.HeldHeaded.{HeldHeaded}
 use Rattle.payload_replay.specs.HeldCapturing.{HeldCaught, HearsCaptured}
 use Rattle.payload_replay.proofs.CaptureLines.{captured_heard, captured_refused, captured_kept}
-use Rattle.payload_replay.proofs.capturing.Capturing.hear.Goals as goal
+use Rattle.payload_replay.proofs.capturing.CapturingHearsLine.line.Goals as goal
 
 pub returns-in-Some : goal.returns-in-Some
 returns-in-Some c =

@@ -4,10 +4,10 @@ use Rattle.flash_session.specs.Flashes.{Cells}
 use Rattle.device_core.specs.HeldDevice.{HeldDevice}
 use Rattle.payload_replay.specs.HeldHeaded.{HeldHeaded}
 use Rattle.payload_replay.proofs.ReplayLines.{replayed_kept}
-use Rattle.payload_replay.proofs.replaying.Replaying.is_kept.Goals as goal
+use Rattle.payload_replay.proofs.replaying.ReplayingHearsLine.is_over.Goals as goal
 
-pub returns-clause-stays : goal.returns-clause-stays
-returns-clause-stays c = λ over line.
+pub returns : goal.returns
+returns c = λ over line.
     let one = some_of c.self.inside.kept (rw (← c.is_some.ensures) over) in
     let kept : c.args.self.now.kept ≡ Some one.0 = ap (λ (h : HeldHeaded (HeldDevice Cells)). h.kept) (sym c.self.view_is) ∙ one.1 in
     replayed_kept c.args.self.now line one.0 kept

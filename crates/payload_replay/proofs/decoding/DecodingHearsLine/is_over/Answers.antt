@@ -2,10 +2,10 @@ use Rattle.std.proofs.Common.{◌≡◌, ◌∙◌, Some, sym, ap}
 use Rattle.report_lines.proofs.Outcomes.{some_of}
 use Rattle.payload_replay.specs.HeldDecoding.{HeldDecoding}
 use Rattle.payload_replay.proofs.Payloads.{decoded_kept}
-use Rattle.payload_replay.proofs.decoding.Decoding.is_kept.Goals as goal
+use Rattle.payload_replay.proofs.decoding.DecodingHearsLine.is_over.Goals as goal
 
-pub returns-clause-stays : goal.returns-clause-stays
-returns-clause-stays c = λ over line.
+pub returns : goal.returns
+returns c = λ over line.
     let one = some_of c.self.inside.kept (rw (← c.is_some.ensures) over) in
     let kept : c.args.self.now.kept ≡ Some one.0 = ap (λ (h : HeldDecoding). h.kept) (sym c.self.view_is) ∙ one.1 in
     decoded_kept c.args.self.now line one.0 kept
