@@ -3,10 +3,10 @@ use Rattle.std.specs.Prelude.{ℕ, ◌+◌, ◌-◌, List, take, drop, codes}
 use Rattle.std.specs.Fmt.{decimal}
 use Rattle.device_core.specs.Device.{DeviceState}
 use Rattle.campaign_server.specs.declared.stage.Stage.{Stage}
-use Rattle.report_lines.specs.Devices.{◌⧺◌, device_line, counts_line}
+use Rattle.report_lines.specs.Devices.{◌⧺◌, standing_of}
 use Rattle.report_lines.specs.Sessions.{same, lines_below, lines_above}
 use Rattle.campaign_world.specs.World.{WorldState}
-use Rattle.campaign_world.specs.Report.{image_line, device_parts}
+use Rattle.campaign_world.specs.Report.{all_lines, image_line, device_parts}
 
 -- the report before the part of a device, and after it
 abbrev pub text_before : WorldState → (id : ℕ) → List ℕ
@@ -21,7 +21,8 @@ text_behind world id =
 -- the report in which these are the lines of the sessions of device id
 abbrev pub report_over : WorldState → (id : ℕ) → Stage → DeviceState → (sessions : List ℕ) → List ℕ
 report_over world id stage device sessions =
-    text_before world id ⧺ device_line (decimal id) stage device ⧺ counts_line device.counts ⧺ sessions ⧺ text_behind world id
+    text_before world id
+    ⧺ all_lines (decimal id) stage (standing_of device) device.counts (sessions ⧺ text_behind world id)
 
 -- the report in which this is the line of its session of an index, between those of the others
 abbrev pub report_with_line : WorldState → (id : ℕ) → Stage → DeviceState → (index : ℕ) → (line : List ℕ) → List ℕ

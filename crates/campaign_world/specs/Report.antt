@@ -2,11 +2,13 @@
 use Rattle.std.specs.Prelude.{ℕ, ◌+◌, List, [], ◌∷◌, length, codes, Option, Some}
 use Rattle.std.specs.Fmt.{decimal}
 use Rattle.frag_encoder.specs.Encoding.{nb_frag_of, padding_of}
+use Rattle.device_core.specs.declared.counts.Counts.{Counts}
 use Rattle.device_core.specs.Device.{DeviceState}
 use Rattle.campaign_server.specs.declared.stage.Stage.{Stage}
 use Rattle.campaign_server.specs.Server.{ServerState, ledger}
 use Rattle.wire_base.specs.Numbered.{numbered}
-use Rattle.report_lines.specs.Devices.{◌⧺◌, device_line, counts_line}
+use Rattle.report_lines.specs.declared.devices.Standing.{Standing}
+use Rattle.report_lines.specs.Devices.{◌⧺◌, standing_of, standing_line, counts_line}
 use Rattle.report_lines.specs.Sessions.{same, session_lines}
 use Rattle.campaign_world.specs.World.{WorldState}
 
@@ -26,10 +28,14 @@ image_line server =
 
 -- ---- the report
 
--- the lines of a device under a name, its files compared with the image
+-- all lines of a device under a name, in their order: how it stands, its counters, and what is said of its sessions
+abbrev pub all_lines : (name : List ℕ) → Stage → Standing → Counts → (sessions : List ℕ) → List ℕ
+all_lines name stage stands counts sessions = standing_line name stage stands ⧺ counts_line counts ⧺ sessions
+
+-- those of a device as it is, its files compared with the image
 abbrev pub named_part : (image name : List ℕ) → Stage → DeviceState → List ℕ
 named_part image name stage device =
-    device_line name stage device ⧺ counts_line device.counts ⧺ session_lines (same image) device.sessions
+    all_lines name stage (standing_of device) device.counts (session_lines (same image) device.sessions)
 
 -- its name is its ID
 abbrev pub device_part : (image : List ℕ) → (id : ℕ) → Stage → DeviceState → List ℕ

@@ -3,10 +3,10 @@
 ghost use Rattle.std.specs.Prelude.{◌≡◌, ◌≤◌, ◌++◌, List, IfOk, codes, length, string_bytes};
 ghost use Rattle.std.specs.Fmt.{decimal};
 ghost use Rattle.device_core.specs.Device.{DeviceState, first_device};
-ghost use Rattle.report_lines.specs.Devices.{◌⧺◌, standing_of, standing_line, counts_line};
+ghost use Rattle.report_lines.specs.Devices.{standing_of};
 ghost use Rattle.campaign_world.specs.HeldWorld.{DevicesRest};
 ghost use Rattle.campaign_world.specs.HeldLate.{DeviceRests};
-ghost use Rattle.campaign_world.specs.Report.{image_text, image_line, named_part, device_parts, report_with};
+ghost use Rattle.campaign_world.specs.Report.{image_text, image_line, all_lines, named_part, device_parts, report_with};
 
 use crate::late::LateDevice;
 use campaign_server::{Server, Stage};
@@ -128,7 +128,7 @@ fn all_lines(
     sessions: &str,
 ) -> Result<String, AllocError>
     ensures { IfOk result (λ text. string_bytes text
-        ≡ standing_line name.now stage stands ⧺ counts_line counts ⧺ sessions.now) }
+        ≡ all_lines name.now stage stands counts sessions.now) }
 {
     let stand = device_line(alloc, name, stage, stands)?;
     let counts = counts_line(alloc, counts)?;

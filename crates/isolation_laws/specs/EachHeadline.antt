@@ -11,9 +11,10 @@ use Rattle.campaign_server.specs.declared.stage.Stage.{Stage}
 use Rattle.campaign_server.specs.declared.stage.Stage.TheVariants.{Updated}
 use Rattle.campaign_server.specs.Server.{ledger}
 use Rattle.script_lines.specs.declared.forms.Campaign.{Campaign}
-use Rattle.report_lines.specs.Devices.{◌⧺◌, device_line, counts_line}
+use Rattle.report_lines.specs.Devices.{standing_of}
 use Rattle.report_lines.specs.Sessions.{session_text}
 use Rattle.campaign_world.specs.Honest.{AreHonest}
+use Rattle.campaign_world.specs.Report.{all_lines}
 use Rattle.campaign_laws.specs.Fields.{AllFit}
 use Rattle.campaign_laws.specs.Headline.{HasNoOther, IsServed, HearsBrought, IsRecovered, Brings, setup_command, WholeAt, OverAt, StaysOpen, complete_words, no_rows_words}
 use Rattle.campaign_laws.specs.Ledger.{Runs}
@@ -36,7 +37,7 @@ pub record HasSession (x : Campaign) (image_a image_b : List ℕ) (lines : List 
 -- the lines of the device with this ID in the script, where this is said of its one session
 abbrev pub part_saying : Campaign → (id index : ℕ) → Stage → DeviceState → Seen → (words : List ℕ) → List ℕ
 part_saying x id index stage device seen words =
-    device_line (pair_name id x) stage device ⧺ counts_line device.counts ⧺ session_text index seen.received seen.missing words
+    all_lines (pair_name id x) stage (standing_of device) device.counts (session_text index seen.received seen.missing words)
 
 -- its campaign, and the number that it has there
 abbrev pub owner_of : Campaign → (number : ℕ) → Owner

@@ -8,12 +8,12 @@ use Rattle.device_core.specs.declared.counts.Counts.{Counts}
 use Rattle.device_core.specs.Device.{DeviceState}
 use Rattle.campaign_server.specs.declared.stage.Stage.{Stage}
 use Rattle.campaign_server.specs.Server.{ledger}
-use Rattle.report_lines.specs.Devices.{◌⧺◌, device_line, counts_line}
+use Rattle.report_lines.specs.Devices.{standing_of}
 use Rattle.report_lines.specs.Sessions.{same, session_lines}
 use Rattle.campaign_world.specs.World.{WorldState}
 use Rattle.campaign_world.specs.Said.{Line, Elsewhere, Reached}
 use Rattle.campaign_world.specs.Script.{campaign_of}
-use Rattle.campaign_world.specs.Report.{lines_under}
+use Rattle.campaign_world.specs.Report.{all_lines, lines_under}
 use Rattle.pair_run.specs.Counting.{IsAlike}
 use Rattle.pair_run.specs.Pair.{PairState, side}
 use Rattle.pair_run.specs.PairLines.{image_of}
@@ -45,10 +45,10 @@ pub record DifferInCounters (one other : WorldState) : Type 0 where
   pub rest : other ≡ record one { devices = other.devices }
   pub devices : AllZip IsAlike one.devices other.devices
 
--- the three kinds of lines of a device under a name, with these counts
+-- the lines of a device under a name, with these counts
 abbrev pub part_counting : (image name : List ℕ) → Stage → DeviceState → Counts → List ℕ
 part_counting image name stage device counts =
-    device_line name stage device ⧺ counts_line counts ⧺ session_lines (same image) device.sessions
+    all_lines name stage (standing_of device) counts (session_lines (same image) device.sessions)
 
 -- what both reports say of a device: under any name the same device line and the same session lines, each report with its counts
 pub record AreToldAlike (world alone : WorldState) (id : ℕ) (name : List ℕ) (stage : Stage) (device one : DeviceState) : Type 0 where
