@@ -2,6 +2,7 @@
 use Rattle.std.specs.Prelude.{◌≡◌, ◌≤◌, ℕ, zero, suc, ◌+◌, ◌%◌, Bool, true, false, ◌==◌, List, [], ◌∷◌, ◌++◌, map, length, replicate, Some, None}
 use Rattle.std.specs.List.{AllByRecursion}
 use Rattle.script_lines.specs.declared.forms.Class.TheVariants as class
+use Rattle.script_lines.specs.declared.forms.DeviceLine.{DeviceLine}
 use Rattle.script_lines.specs.declared.forms.Form.{Form}
 use Rattle.script_lines.specs.declared.forms.Form.TheVariants.{Header, Image, Device, Ask, Frag, Down, Up, End}
 use Rattle.script_lines.specs.Lines.{lines_of}
@@ -16,8 +17,22 @@ abbrev pub ◌⧺◌ : List Form → List Form → List Form
 a ⧺ b = a ++ b
 
 -- a device of class C and hardware version 1, with 64 rows and a key of zeros
+abbrev pub seed_device : (device offset : ℕ) → DeviceLine
+seed_device device offset = record {
+  id = device;
+  class = class.C;
+  hw = 1;
+  rows = 64;
+  offset = offset;
+  key = replicate 16 0;
+  descriptor = None;
+  v1 = false;
+  k11 = false;
+  flash = false;
+}
+
 abbrev pub device_form : (device offset : ℕ) → Form
-device_form device offset = Device device class.C 1 64 offset (replicate 16 0) None false false false
+device_form device offset = Device (seed_device device offset)
 
 -- a payload reaches a device, with no random word
 abbrev pub down_form : (sent device : ℕ) → Form

@@ -273,7 +273,7 @@ is_heard image w (Image size parity index) bytes keeps k fine honest = record { 
 is_heard image w (GroupLine id addr key min max) bytes keeps k fine honest = record { plain = refl; fine = fine; same = refl }
 is_heard image w (WindowC start timeout freq dr) bytes keeps k fine honest = record { plain = refl; fine = fine; same = refl }
 is_heard image w (WindowB start periodicity timeout freq dr) bytes keeps k fine honest = record { plain = refl; fine = fine; same = refl }
-is_heard image w (Device id class hw rows offset key descriptor v1 k11 flash) bytes keeps k fine honest =
+is_heard image w (Device dev) bytes keeps k fine honest =
     record { plain = refl; fine = fine; same = refl }
 is_heard image w (At time) bytes keeps k fine honest = record { plain = refl; fine = fine; same = refl }
 is_heard image w (Wake n) bytes keeps k fine honest = record { plain = refl; fine = fine; same = refl }

@@ -45,17 +45,15 @@ with_line : (lines : List Line) (w : WorldState) (said : Said) → said_cause w 
     → numbered lines (w.lines + 1) ≡ Some (Ok said) → AllConfigured lines w.devices
     → AllConfigured lines (w.devices ++ filter_map device_in (Ok said ∷ []))
 unfolding in_range
-with_line lines w (Own (Device name class hw rows offset key descriptor v1 k11 flash)) fine line_is h id =
-    elim (numbered_push w.devices (device_of class hw rows offset key descriptor v1 k11 flash) id) [
+with_line lines w (Own (Device dev)) fine line_is h id =
+    elim (numbered_push w.devices (device_of dev) id) [
       | inl same ↦ subst (λ (o : Option DeviceState). IfSome o (λ d. IsOfItsLine lines id d.config)) (sym same) (h id)
       | inr new ↦
-          let both = and_parts _ (name == length w.devices + 1)
-          (passes w (Device name class hw rows offset key descriptor v1 k11 flash) fine).ranged in
-          let next : name ≡ length w.devices + 1 = eqb-true _ _ both.1 in
-          let line : Line = Ok (Own (Device name class hw rows offset key descriptor v1 k11 flash)) in
-          let says = ap (λ (n : ℕ). let l : Line = Ok (Own (Device n class hw rows offset key descriptor v1 k11 flash)) in l) (next ∙ sym new.2) in
-          some_is (λ (d : DeviceState). IsOfItsLine lines id d.config) _ (device_of class hw rows offset key descriptor v1 k11 flash) new.1
-          (w.lines + 1, line, class, hw, rows, offset, key, descriptor, v1, k11, flash, assumption (line_is, says, class_same class))
+          let both = and_parts _ (dev.id == length w.devices + 1)
+          (passes w (Device dev) fine).ranged in
+          let next : dev.id ≡ length w.devices + 1 = eqb-true _ _ both.1 in
+          some_is (λ (d : DeviceState). IsOfItsLine lines id d.config) _ (device_of dev) new.1
+          (w.lines + 1, Ok (Own (Device dev)), dev, assumption (line_is, next ∙ sym new.2, class_same dev.class))
     ]
 with_line lines w said fine line_is h id =
     subst (λ (ds : List DeviceState). IfSome (numbered ds id) (λ d. IsOfItsLine lines id d.config))

@@ -123,7 +123,7 @@ device_words_fit : (line : List ℕ) (k : ℕ) (descriptor : Option ℕ) (v1 k11
 device_words_fit line k descriptor v1 k11 flash =
     behind (decimal_at line 1) _ (λ id id_is. behind (class_at line k) _ (λ class class_is. behind (decimal_at line (k + 1)) _ (λ hw hw_is.
     behind (decimal_at line (k + 2)) _ (λ rows rows_are. behind (decimal_at line (k + 3)) _ (λ offset offset_is.
-    behind (key_at line (k + 4)) _ (λ key key_is. leaf (Device id class hw rows offset key descriptor v1 k11 flash)
+    behind (key_at line (k + 4)) _ (λ key key_is. leaf (Device (record { id = id; class = class; hw = hw; rows = rows; offset = offset; key = key; descriptor = descriptor; v1 = v1; k11 = k11; flash = flash }))
     (at_some IsBlock (key_at line (k + 4)) key (key_block (word line (k + 4))) key_is, refl)))))))
 
 device_of_words_fit : (line : List ℕ) (k count : ℕ) (k11 flash : Bool) → Fits (IsNamed 0) (device_of_words line k count k11 flash)

@@ -131,14 +131,14 @@ form_counted w (WindowB start periodicity timeout freq dr) fine k = record {
   some = tt;
   even = record { stages = planned_even w.server.plan _ k.even.planned; planned = k.even.planned };
 }
-form_counted w (Device id class hw rows offset key descriptor v1 k11 flash) fine k =
+form_counted w (Device dev) fine k =
     let more = length_push w.devices _ in
-    let planned : length (w.server.plan.devices ++ record { key = key; root = root_of k11 } ∷ []) ≡ _ =
-    length_push w.server.plan.devices (record { key = key; root = root_of k11 }) ∙ ap (λ (n : ℕ). n + 1) k.even.planned ∙ sym more in
+    let planned : length (w.server.plan.devices ++ record { key = dev.key; root = root_of dev.k11 } ∷ []) ≡ _ =
+    length_push w.server.plan.devices (record { key = dev.key; root = root_of dev.k11 }) ∙ ap (λ (n : ℕ). n + 1) k.even.planned ∙ sym more in
     record {
       some = omega (arith, more);
       even = record {
-        stages = length-replicate (length (w.server.plan.devices ++ record { key = key; root = root_of k11 } ∷ [])) (AtRequest Version)
+        stages = length-replicate (length (w.server.plan.devices ++ record { key = dev.key; root = root_of dev.k11 } ∷ [])) (AtRequest Version)
             ∙ planned;
         planned = planned;
       };

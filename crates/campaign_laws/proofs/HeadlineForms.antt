@@ -334,28 +334,20 @@ form_turn image w (WindowB start periodicity timeout freq dr) bytes k fine hones
     (record { image_is = k.server.image_is; next = omega arith; few = k.server.few; indexed = k.server.indexed; masked = k.server.masked })
     (late_cut image w (WindowB start periodicity timeout freq dr) w.section refl
     (passes w (WindowB start periodicity timeout freq dr) fine).may k.stands) refl refl refl refl
-form_turn image w (Device id class hw rows offset key descriptor v1 k11 flash) bytes k fine honest =
-    let p = passes w (Device id class hw rows offset key descriptor v1 k11 flash) fine in
-    let both = and_parts (ranged id hw rows offset) (id == length w.devices + 1) p.ranged in
-    let next : id ≡ length w.devices + 1 = eqb-true _ _ both.1 in
+form_turn image w (Device dev) bytes k fine honest =
+    let p = passes w (Device dev) fine in
+    let both = and_parts (ranged dev.id dev.hw dev.rows dev.offset) (dev.id == length w.devices + 1) p.ranged in
+    let next : dev.id ≡ length w.devices + 1 = eqb-true _ _ both.1 in
     record {
       lines = refl;
       server = record { image_is = k.server.image_is; next = omega arith; few = k.server.few; indexed = k.server.indexed; masked = k.server.masked };
-      stands = late_cut image w (Device id class hw rows offset key descriptor v1 k11 flash) w.section refl p.may k.stands;
+      stands = late_cut image w (Device dev) w.section refl p.may k.stands;
       how = inr (inr (inl (record {
         other = refl;
         cut = refl;
-        class = class;
-        hw = hw;
-        rows = rows;
-        offset = offset;
-        key = key;
-        descriptor = descriptor;
-        v1 = v1;
-        k11 = k11;
-        flash = flash;
-        said_is = ap (λ (n : ℕ). Own (Device n class hw rows offset key descriptor v1 k11 flash)) next;
-        few = few_rows id hw rows offset both.0;
+        dev = dev;
+        said_is = ap (λ (n : ℕ). Own (Device (record dev { id = n }))) next;
+        few = few_rows dev.id dev.hw dev.rows dev.offset both.0;
         devices = refl;
         sent = refl;
       })));

@@ -145,7 +145,7 @@ turn_full image lines sent more w v said line bytes k read turn grown line_is sa
           (numbered v.devices id)) (sym j.cut)
           (subst (λ (ds : List DeviceState). DeviceHears image (cut_of w.server.plan) (Brings image lines sent id)
           (w.lines + 1) (numbered ds id)) (sym j.devices)
-          (joined_hear image (cut_of w.server.plan) lines sent id w.lines w.devices (device_of j.class j.hw j.rows j.offset j.key j.descriptor j.v1 j.k11 j.flash)
+          (joined_hear image (cut_of w.server.plan) lines sent id w.lines w.devices (device_of j.dev)
           (none_at w.server.plan.index)
           (no_delivery image lines sent id (w.lines + 1) line said line_is says j.other) (h id)))
       | inr r ↦ λ id. subst (λ (x : Cut). DeviceHears image x (Brings image lines sent id) (w.lines + 1)

@@ -370,7 +370,7 @@ turn_came image lines w v said line bytes k read turn line_is says h = elim turn
           (subst (λ (ss : List SentPayload). AllCame image index lines ss (w.lines + 1) v.devices) (sym j.sent)
           (subst (AllCame image index lines w.sent (w.lines + 1)) (sym j.devices)
           (joined_came image index lines w.sent w.lines w.devices
-          (config_of j.class j.hw j.rows j.offset j.key j.descriptor j.v1 j.k11 j.flash) h)))
+          (config_of j.dev) h)))
       | inr r ↦ subst (λ (i : ℕ). AllCame image i lines v.sent (w.lines + 1) v.devices) (sym (index_on w v r.cut))
           (subst (λ (ss : List SentPayload). AllCame image index lines ss (w.lines + 1) v.devices) (sym r.sent)
           (subst (AllCame image index lines w.sent (w.lines + 1)) (sym r.devices) (reached r)))

@@ -7,7 +7,7 @@ use Rattle.frag_session.specs.Session.{Session}
 use Rattle.campaign_laws.proofs.OwnSession.{none_at}
 use Rattle.campaign_server.specs.Server.{DownlinkCommand, downlink_of}
 use Rattle.wire_base.specs.Numbered.{numbered}
-use Rattle.script_lines.specs.declared.forms.Class.{Class}
+use Rattle.script_lines.specs.declared.forms.DeviceLine.{DeviceLine}
 use Rattle.script_lines.specs.declared.forms.Form.TheVariants.{Device, Down}
 use Rattle.campaign_world.specs.declared.section.Section.{Section}
 use Rattle.campaign_world.specs.declared.section.Section.TheVariants as section
@@ -98,18 +98,10 @@ pub record IsBegun (said : Said) (w v : WorldState) : Type 0 where
 pub record IsJoined (said : Said) (w v : WorldState) : Type 0 where
   pub other : is_down said ≡ false
   pub cut : cut_of v.server.plan ≡ cut_of w.server.plan
-  pub class : Class
-  pub hw : ℕ
-  pub rows : ℕ
-  pub offset : ℕ
-  pub key : List ℕ
-  pub descriptor : Option ℕ
-  pub v1 : Bool
-  pub k11 : Bool
-  pub flash : Bool
-  pub said_is : said ≡ Own (Device (length w.devices + 1) class hw rows offset key descriptor v1 k11 flash)
-  pub few : rows ≤ max_rows
-  pub devices : v.devices ≡ w.devices ++ device_of class hw rows offset key descriptor v1 k11 flash ∷ []
+  pub dev : DeviceLine
+  pub said_is : said ≡ Own (Device (record dev { id = length w.devices + 1 }))
+  pub few : dev.rows ≤ max_rows
+  pub devices : v.devices ≡ w.devices ++ device_of dev ∷ []
   pub sent : v.sent ≡ w.sent
 
 -- a payload reaches a device
@@ -211,7 +203,7 @@ turn_keeps image said w v k turn = elim turn.how [
         devices = subst (λ (x : Cut). DevicesAre image x v.devices) (sym j.cut)
             (subst (DevicesAre image (cut_of w.server.plan)) (sym j.devices)
             (joined_devices image (cut_of w.server.plan) w.devices
-            (config_of j.class j.hw j.rows j.offset j.key j.descriptor j.v1 j.k11 j.flash)
+            (config_of j.dev)
             (record { sessions = refl; area = refl; rows = j.few; flash = refl }) k.devices));
       }
       | inr r ↦

@@ -240,7 +240,7 @@ form_told id group all w (WindowC start timeout freq dr) fine =
 form_told id group all w (WindowB start periodicity timeout freq dr) fine =
     still_told id group all w _ (Own (WindowB start periodicity timeout freq dr))
     (same_still w _ refl refl refl refl) refl refl refl
-form_told id group all w (Device name class hw rows offset key descriptor v1 k11 flash) fine = record {
+form_told id group all w (Device dev) fine = record {
   lines = refl;
   time = refl;
   sent = same_sent w;

@@ -51,8 +51,8 @@ form_indexed index w (WindowC start timeout freq dr) fine fits k =
 form_indexed index w (WindowB start periodicity timeout freq dr) fine fits k =
     let form : Form = WindowB start periodicity timeout freq dr in
     late_index index w.server.plan form w.section refl (passes w form fine).may k
-form_indexed index w (Device id class hw rows offset key descriptor v1 k11 flash) fine fits k =
-    let form : Form = Device id class hw rows offset key descriptor v1 k11 flash in
+form_indexed index w (Device dev) fine fits k =
+    let form : Form = Device dev in
     late_index index w.server.plan form w.section refl (passes w form fine).may k
 form_indexed index w form fine fits k =
     same_index w _ (made_settled w form refl) ∙ late_index index w.server.plan form w.section refl (passes w form fine).may k

@@ -275,10 +275,10 @@ form_keyed index w (WindowB start periodicity timeout freq dr) fine fits plain f
     turned start periodicity timeout freq dr is =
         let both = and_parts (nat_lt start (2 ^ 32) && nat_le timeout 15 && nat_lt freq (2 ^ 24) && nat_le dr 255) (nat_le periodicity 7) is in
         rw (both.1) both.0
-form_keyed index w (Device id class hw rows offset key descriptor v1 k11 flash) fine fits plain few k =
-    let form : Form = Device id class hw rows offset key descriptor v1 k11 flash in
+form_keyed index w (Device dev) fine fits plain few k =
+    let form : Form = Device dev in
     let here = plan_at w.section form refl (passes w form fine).may in
-    joined_keyed w (config_of class hw rows offset key descriptor v1 k11 flash) here fits k
+    joined_keyed w (config_of dev) here fits k
 form_keyed index w (At time) fine fits plain few k =
     still_keyed w.lines w.section section.Events w.server w.devices w.sent (λ plan. absurd (true≢false (sym plan))) k
 form_keyed index w (Power n) fine fits plain few k =

@@ -370,13 +370,13 @@ form_holds image w (Image frag_size parity index) bytes is k h fine honest = pla
 form_holds image w (Group id addr key min max) bytes is k h fine honest = plan_holds image w _ _ h
 form_holds image w (WindowC start timeout freq dr) bytes is k h fine honest = plan_holds image w _ _ h
 form_holds image w (WindowB start periodicity timeout freq dr) bytes is k h fine honest = plan_holds image w _ _ h
-form_holds image w (Device id class hw rows offset key descriptor v1 k11 flash) bytes is k h fine honest =
-    let form : Form = Device id class hw rows offset key descriptor v1 k11 flash in
+form_holds image w (Device dev) bytes is k h fine honest =
+    let form : Form = Device dev in
     let both = and_parts (in_range form) (fits_script (length w.server.image) (length w.devices) form)
     (passes w form fine).ranged in
-    let small : hw < 2 ^ 32 = ltb-true hw (2 ^ 32)
-    (hw_small (nat_le 1 id) (nat_le id max_devices) (nat_lt hw (2 ^ 32)) (nat_le rows max_rows)
-    (nat_lt offset (2 ^ 32)) both.0) in
+    let small : dev.hw < 2 ^ 32 = ltb-true dev.hw (2 ^ 32)
+    (hw_small (nat_le 1 dev.id) (nat_le dev.id max_devices) (nat_lt dev.hw (2 ^ 32)) (nat_le dev.rows max_rows)
+    (nat_lt dev.offset (2 ^ 32)) both.0) in
     device_joins image w _ _ _ _ (record {
       hardware = small;
       slots = record { running = inl refl; next = inl refl };

@@ -87,7 +87,7 @@ form_keeps w (Image frag_size parity index) = record { lines = refl; image = ref
 form_keeps w (Group id addr key min max) = record { lines = refl; image = refl }
 form_keeps w (WindowC start timeout freq dr) = record { lines = refl; image = refl }
 form_keeps w (WindowB start periodicity timeout freq dr) = record { lines = refl; image = refl }
-form_keeps w (Device id class hw rows offset key descriptor v1 k11 flash) = record { lines = refl; image = refl }
+form_keeps w (Device dev) = record { lines = refl; image = refl }
 form_keeps w form = made_keeps w form refl
 
 line_read : (w : WorldState) (line : List ℕ) (form : Form) → form_of line ≡ Some form → cause_of w (line_of line) ≡ None

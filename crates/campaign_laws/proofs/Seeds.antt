@@ -1,5 +1,5 @@
 -- The image of a seed, its whole script, and what the devices come to.
-use Rattle.std.proofs.Common.{◌≡◌, ◌≢◌, ◌⊎◌, inl, inr, ℕ, zero, suc, ◌+◌, ◌-◌, ◌*◌, ◌/◌, ◌%◌, ◌^◌, ◌<◌, ◌≤◌, ◌==◌, ◌&&◌, nat_lt, nat_le, Bool, true, false, cond, List, [], ◌∷◌, ◌++◌, length, replicate, slice_get, Option, None, Some, Ok, refl, sym, ap, ◌∙◌, subst, ⊎_elim, lit<, arith}
+use Rattle.std.proofs.Common.{◌≡◌, ◌≢◌, ◌⊎◌, inl, inr, ℕ, zero, suc, ◌+◌, ◌-◌, ◌*◌, ◌/◌, ◌%◌, ◌^◌, ◌<◌, ◌≤◌, ◌==◌, ◌&&◌, nat_lt, nat_le, Bool, true, false, cond, List, [], ◌∷◌, ◌++◌, length, replicate, slice_get, None, Some, Ok, refl, sym, ap, ◌∙◌, subst, ⊎_elim, lit<, arith}
 use Rattle.std.specs.List.{AllByRecursion}
 use Rattle.std.specs.Int.{w32, to_be_bytes}
 use Rattle.std.proofs.lemmas.List.{length-append}
@@ -24,6 +24,7 @@ use Rattle.campaign_server.specs.Plan.{Plan}
 use Rattle.campaign_server.specs.Server.{ServerState, first_server}
 use Rattle.wire_base.specs.Numbered.{numbered}
 use Rattle.script_lines.specs.declared.forms.Class.TheVariants as class
+use Rattle.script_lines.specs.declared.forms.DeviceLine.{DeviceLine}
 use Rattle.script_lines.specs.declared.forms.Form.{Form}
 use Rattle.script_lines.specs.declared.forms.Form.TheVariants.{Header, Image, Device, End}
 use Rattle.script_lines.specs.Lines.{lines_of}
@@ -31,7 +32,7 @@ use Rattle.script_lines.specs.Ranges.{in_range}
 use Rattle.campaign_generator.specs.Draws.{stepped, drawn, after_draws}
 use Rattle.campaign_generator.specs.Firmware.{body_of, firmware_of_seed, bytes_from, file_of, image_of, size_of, after_image, fragments_of_size, fragments_of}
 use Rattle.campaign_generator.specs.Script.{script_of, sent_of}
-use Rattle.campaign_generator.specs.Forms.{device_form, forms_of_devices, forms_of_rounds, forms_of_frags, forms_of_deliveries, forms_from, forms_of}
+use Rattle.campaign_generator.specs.Forms.{seed_device, device_form, forms_of_devices, forms_of_rounds, forms_of_frags, forms_of_deliveries, forms_from, forms_of}
 use Rattle.campaign_generator.proofs.ImageFile.{image_files}
 use Rattle.campaign_generator.proofs.ScriptForms.{lines_spell_forms}
 use Rattle.campaign_world.specs.declared.summary.Totals.{Totals}
@@ -153,7 +154,7 @@ numbered_replicate count n x low high =
 
 -- another device may come
 abbrev pub TakesDevice : Section → Type 0
-TakesDevice here = (id hw rows offset : ℕ) (key : List ℕ) (descriptor : Option ℕ) (v1 k11 flash : Bool) → is_in_order here (Device id class.C hw rows offset key descriptor v1 k11 flash) ≡ true
+TakesDevice here = (dev : DeviceLine) → is_in_order here (Device dev) ≡ true
 
 -- so many devices have joined
 pub record Joined (image : List ℕ) (devices : ℕ) (w : WorldState) : Type 0 where
@@ -180,7 +181,7 @@ start image few =
       server = refl;
       plan = record { size = refl; parity = refl; index = refl; group = refl };
       time = refl;
-      takes = λ id hw rows offset key descriptor v1 k11 flash. refl;
+      takes = λ dev. refl;
       events = λ some. absurd (omega (arith, some));
       keys = refl;
       count = refl;
@@ -200,12 +201,12 @@ device_to : (image : List ℕ) (k g : ℕ) (w : WorldState) → k < 8 → Joined
 unfolding after_form in_range
 device_to image k g w few j =
     one w (device_form (k + 1) (drawn g)) (Joined image (k + 1))
-    (no_cause w (device_form (k + 1) (drawn g)) (record { comes = j.takes (k + 1) 1 64 (drawn g) (replicate 16 0) None false false false; ranges = ranged; fits = rw j.count same }) refl refl refl refl refl refl refl)
+    (no_cause w (device_form (k + 1) (drawn g)) (record { comes = j.takes _; ranges = ranged; fits = rw j.count same }) refl refl refl refl refl refl refl)
     (record {
       server = ap (λ (s : ServerState). first_server s.image plan') j.server;
       plan = record { size = j.plan.size; parity = j.plan.parity; index = j.plan.index; group = j.plan.group };
       time = j.time;
-      takes = λ id hw rows offset key descriptor v1 k11 flash. refl;
+      takes = λ dev. refl;
       events = λ some. takes_first_event;
       keys = rw length-append (ap (λ (i : ℕ). i + 1) j.keys);
       count = rw length-append (ap (λ (i : ℕ). i + 1) j.count);
@@ -230,7 +231,7 @@ device_to image k g w few j =
     same = grind arith
 
     new : DeviceState
-    new = device_of class.C 1 64 (drawn g) (replicate 16 0) None false false false
+    new = device_of (seed_device (k + 1) (drawn g))
 
     each : (n : ℕ) → 1 ≤ n → n ≤ k + 1 → (d : DeviceState) × (numbered (w.devices ++ new ∷ []) n ≡ Some d) × IsNew d
     each n l h = by (n == k + 1) refl

@@ -227,8 +227,8 @@ form_waits w (Group id addr key min max) fine honest k = plan_waits w _ section.
 form_waits w (WindowC start timeout freq dr) fine honest k = plan_waits w _ section.Device (plan_at w.section (WindowC start timeout freq dr) refl (passes w (WindowC start timeout freq dr) fine).may) k
 form_waits w (WindowB start periodicity timeout freq dr) fine honest k =
     plan_waits w _ section.Device (plan_at w.section (WindowB start periodicity timeout freq dr) refl (passes w (WindowB start periodicity timeout freq dr) fine).may) k
-form_waits w (Device id class hw rows offset key descriptor v1 k11 flash) fine honest k =
-    joins_wait w (device_of class hw rows offset key descriptor v1 k11 flash) _ _ (plan_at w.section (Device id class hw rows offset key descriptor v1 k11 flash) refl (passes w (Device id class hw rows offset key descriptor v1 k11 flash) fine).may)
+form_waits w (Device dev) fine honest k =
+    joins_wait w (device_of dev) _ _ (plan_at w.section (Device dev) refl (passes w (Device dev) fine).may)
     (record { reboot = refl; version = refl }) k
 form_waits w (AtTime time) fine honest k = record { none_sent = λ plan. absurd cc; all = λ plan. absurd cc; devices = k.devices; sent = k.sent }
 form_waits w (Power n) fine honest k = record { none_sent = λ plan. absurd cc; all = λ plan. absurd cc; devices = k.devices; sent = k.sent }

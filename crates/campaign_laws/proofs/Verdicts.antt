@@ -241,9 +241,9 @@ history_fine lines group sent id time k (line ∷ rest) d left b =
 fresh_by : (carries : ℕ → Command → Type 0) (lines : List Line) (n : ℕ) (d : DeviceState)
     → slice_get (filter_map device_in lines) n ≡ Some d → AreFine carries 0 d
 fresh_by carries [] n d is = absurd cc
-fresh_by carries (Ok (Own (Device id class hw rows offset key descriptor v1 k11 flash)) ∷ lines) zero d is =
-    let same : device_of class hw rows offset key descriptor v1 k11 flash ≡ d = cc in subst (AreFine carries 0) same (tt, tt, tt, tt)
-fresh_by carries (Ok (Own (Device id class hw rows offset key descriptor v1 k11 flash)) ∷ lines) (suc n) d is = fresh_by carries lines n d is
+fresh_by carries (Ok (Own (Device dev)) ∷ lines) zero d is =
+    let same : device_of dev ≡ d = cc in subst (AreFine carries 0) same (tt, tt, tt, tt)
+fresh_by carries (Ok (Own (Device dev)) ∷ lines) (suc n) d is = fresh_by carries lines n d is
 fresh_by carries (line ∷ lines) n d is = fresh_by carries lines n d is
 
 fresh_at : (carries : ℕ → Command → Type 0) (lines : List Line) (n : ℕ) (d : DeviceState) (b : Bool)

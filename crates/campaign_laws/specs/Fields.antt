@@ -10,7 +10,7 @@ use Rattle.campaign_world.specs.Said.{Own, Line}
 abbrev pub HasFields : (index : ℕ) → Form → Type 0
 HasFields index (Image frag_size parity its) = its ≡ index
 HasFields index (Group id addr key min max) = (addr < 2 ^ 32) × IsBlock key
-HasFields index (Device id class hw rows offset key descriptor v1 k11 flash) = IsBlock key
+HasFields index (Device dev) = IsBlock dev.key
 HasFields index form = Unit {0}
 
 abbrev pub LineFits : (index : ℕ) → Line → Type 0

@@ -1,6 +1,6 @@
 -- The headline in the field's own words: what the session of a campaign hears, when it is decided, and what the report says.
 -- (This project's profile.)
-use Rattle.std.specs.Prelude.{◌≡◌, ◌≢◌, ◌⊎◌, ℕ, Bool, ◌+◌, ◌-◌, ◌^◌, ◌<◌, ◌≤◌, true, false, List, [], ◌∷◌, ◌++◌, length, min, take, All, codes, Option, Some, None, Result, Ok}
+use Rattle.std.specs.Prelude.{◌≡◌, ◌≢◌, ◌⊎◌, ℕ, ◌+◌, ◌-◌, ◌^◌, ◌<◌, ◌≤◌, true, false, List, [], ◌∷◌, ◌++◌, length, min, take, All, codes, Option, Some, None, Result, Ok}
 use Rattle.std.specs.List.{AllByRecursion}
 use Rattle.std.specs.Fmt.{decimal}
 use Rattle.frag_model.specs.Limits.{max_parity_index}
@@ -30,6 +30,7 @@ use Rattle.campaign_server.specs.Server.{ServerState, DownlinkCommand, ledger, d
 use Rattle.wire_base.specs.Numbered.{numbered}
 use Rattle.campaign_server.specs.Asking.{mask_of, fragments_request}
 use Rattle.script_lines.specs.declared.forms.Class.{Class}
+use Rattle.script_lines.specs.declared.forms.DeviceLine.{DeviceLine}
 use Rattle.script_lines.specs.declared.forms.Class.TheVariants as class
 use Rattle.script_lines.specs.declared.forms.Form.TheVariants.{Device, Down, Air}
 use Rattle.campaign_world.specs.declared.numbered.SentPayload.{SentPayload}
@@ -61,27 +62,27 @@ IsClass class.A k = k ≡ device_class.A
 IsClass class.C k = k ≡ device_class.C
 
 -- line n of the script is the line of device id, which says this configuration
-pub record IsConfigured (lines : List Line) (id : ℕ) (config : DeviceConfig) (n : ℕ) (line : Line) (class : Class) (hw rows offset : ℕ) (key : List ℕ) (descriptor : Option ℕ) (v1 k11 flash : Bool) : Type 0 where
+pub record IsConfigured (lines : List Line) (id : ℕ) (config : DeviceConfig) (n : ℕ) (line : Line) (dev : DeviceLine) : Type 0 where
   pub line_is : numbered lines n ≡ Some line
-  pub says : line ≡ Ok (Own (Device id class hw rows offset key descriptor v1 k11 flash))
-  pub class_is : IsClass class config.class
-  pub hw_is : config.hw ≡ hw
-  pub rows_are : config.rows ≡ rows
-  pub offset_is : config.offset ≡ offset
-  pub key_is : config.key ≡ key
-  pub descriptor_is : config.descriptor ≡ descriptor
-  pub formats_are : config.formats ≡ formats_of v1
-  pub root_is : config.root ≡ root_of k11
+  pub says : line ≡ Ok (Own (Device dev))
+  pub its_id : dev.id ≡ id
+  pub class_is : IsClass dev.class config.class
+  pub hw_is : config.hw ≡ dev.hw
+  pub rows_are : config.rows ≡ dev.rows
+  pub offset_is : config.offset ≡ dev.offset
+  pub key_is : config.key ≡ dev.key
+  pub descriptor_is : config.descriptor ≡ dev.descriptor
+  pub formats_are : config.formats ≡ formats_of dev.v1
+  pub root_is : config.root ≡ root_of dev.k11
   pub sessions_are : config.sessions ≡ 4
   pub groups_are : config.groups ≡ 4
   pub area_is : config.area ≡ max_area
-  pub held_is : config.held ≡ flash
-  pub span_is : config.span ≡ span_of flash
+  pub held_is : config.held ≡ dev.flash
+  pub span_is : config.span ≡ span_of dev.flash
 
 -- the configuration is that of the device's line
 abbrev pub IsOfItsLine : List Line → (id : ℕ) → DeviceConfig → Type 0
-IsOfItsLine lines id config = (n : ℕ) × (line : Line) × (class : Class) × (hw : ℕ) × (rows : ℕ) × (offset : ℕ) × (key : List ℕ) × (descriptor : Option ℕ) × (v1 : Bool) × (k11 : Bool) × (flash : Bool)
-    × IsConfigured lines id config n line class hw rows offset key descriptor v1 k11 flash
+IsOfItsLine lines id config = (n : ℕ) × (line : Line) × (dev : DeviceLine) × IsConfigured lines id config n line dev
 
 -- the session is the one that the server sets up for the image on a device with so many rows, and hears nothing but the
 -- image's fragments

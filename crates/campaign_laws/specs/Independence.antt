@@ -17,8 +17,7 @@ use Rattle.campaign_world.specs.Script.{campaign_of}
 
 -- a device line gives a device, as it is first
 abbrev pub device_in : Line → Option DeviceState
-device_in (Ok (Own (Device id class hw rows offset key descriptor v1 k11 flash))) =
-    Some (device_of class hw rows offset key descriptor v1 k11 flash)
+device_in (Ok (Own (Device dev))) = Some (device_of dev)
 device_in line = None
 
 -- the devices of a script, in the order of their IDs, as they are first

@@ -1,5 +1,5 @@
 -- Campaigns worked out: their reports, and the first refused lines of scripts.
-use Rattle.std.specs.Prelude.{◌≡◌, ℕ, ◌+◌, true, false, List, [], ◌∷◌, ◌++◌, map, replicate, codes, Option, None, Some, Result, Ok, Err}
+use Rattle.std.specs.Prelude.{◌≡◌, ℕ, ◌+◌, Bool, true, false, List, [], ◌∷◌, ◌++◌, map, replicate, codes, Option, None, Some, Result, Ok, Err}
 use Rattle.frag_session.specs.declared.answers.Verdict.{Verdict}
 use Rattle.frag_session.specs.declared.answers.Verdict.TheVariants as verdict
 use Rattle.frag_session.specs.Session.{Session, Seen, view_of}
@@ -7,12 +7,15 @@ use Rattle.mc_keys.specs.declared.root_kind.RootKind.{RootKind}
 use Rattle.mc_keys.specs.declared.root_kind.RootKind.TheVariants.{V10, V11}
 use Rattle.device_core.specs.declared.config.Class.TheVariants as device_class
 use Rattle.device_core.specs.Device.{DeviceState}
+use Rattle.device_core.specs.WorkedConfig.{worked_config}
 use Rattle.campaign_server.specs.declared.plan.Kind.TheVariants as kind
 use Rattle.campaign_server.specs.Plan.{Plan}
 use Rattle.campaign_server.specs.declared.stage.Stage.TheVariants.{At, Updated, Refused}
 use Rattle.campaign_server.specs.declared.stage.Request.TheVariants as request
 use Rattle.campaign_server.specs.Server.{ServerState, first_server}
+use Rattle.script_lines.specs.declared.forms.Class.{Class}
 use Rattle.script_lines.specs.declared.forms.Class.TheVariants as class
+use Rattle.script_lines.specs.declared.forms.DeviceLine.{DeviceLine}
 use Rattle.script_lines.specs.declared.forms.Form.{Form}
 use Rattle.script_lines.specs.declared.forms.Form.TheVariants.{Header, Image, Group, WindowC, WindowB, Device, Frag, End}
 use Rattle.image_slots.specs.WorkedImages.{worked_image, ranged_image}
@@ -187,6 +190,21 @@ pub record AreRefused : Type 0 where
 
 -- ---- the causes in their order, and the limits of a line
 
+-- a device line, with `v1`, `k11` and `flash` or with none of them
+abbrev pub worked_line : Class → Option ℕ → Bool → DeviceLine
+worked_line class descriptor all = record {
+  id = 1;
+  class = class;
+  hw = 7;
+  rows = 3;
+  offset = 9;
+  key = 8 ∷ [];
+  descriptor = descriptor;
+  v1 = all;
+  k11 = all;
+  flash = all;
+}
+
 pub record AreCauses : Type 0 where
   -- order before range
   pub order_before_range : told (one_device (codes "image 240 0\n")) ≡ refused 4 why.Order
@@ -204,11 +222,11 @@ pub record AreCauses : Type 0 where
   pub more_of_two : fits_script 8193 0 (Image 2 0 0) ≡ false
   -- a group waits for its window, and no device or second group comes before it
   pub group_twice : is_in_order section.Window (Group 0 1 [] 0 1) ≡ false
-  pub device_for_window : is_in_order section.Window (Device 1 class.A 1 0 0 [] None false false false) ≡ false
+  pub device_for_window : is_in_order section.Window (Device (worked_line class.A None false)) ≡ false
   pub window_first : is_in_order section.Group (WindowC 0 0 0 0) ≡ false
   pub group_behind : is_in_order section.Device (Group 0 1 [] 0 1) ≡ false
   pub event_first : is_in_order section.Device Frag ≡ false
-  pub device_behind : is_in_order section.Events (Device 1 class.A 1 0 0 [] None false false false) ≡ false
+  pub device_behind : is_in_order section.Events (Device (worked_line class.A None false)) ≡ false
   pub end_of_devices : is_in_order section.Devices End ≡ true
   pub nothing_behind : is_in_order section.Ended End ≡ false
 
@@ -232,36 +250,18 @@ pub record ArePlanned : Type 0 where
   pub window_section : section_behind (Group 2 7 (8 ∷ []) 5 9) ≡ section.Window
   pub device_section : section_behind (WindowC 1 3 4 5) ≡ section.Device
   -- a device of class A with all that a line can say, and one of class C with as little as it can
-  pub configured : config_of class.A 7 3 9 (8 ∷ []) (Some 10) true true true ≡ record {
-    class = device_class.A;
+  pub configured : config_of (worked_line class.A (Some 10) true) ≡ record (worked_config device_class.A 9) {
     hw = 7;
     formats = 1;
     rows = 3;
-    offset = 9;
     key = 8 ∷ [];
     root = V11;
     descriptor = Some 10;
-    sessions = 4;
-    groups = 4;
-    area = 262382;
     held = true;
     span = 631573;
   }
-  pub plain : config_of class.C 7 3 9 (8 ∷ []) None false false false ≡ record {
-    class = device_class.C;
-    hw = 7;
-    formats = 2;
-    rows = 3;
-    offset = 9;
-    key = 8 ∷ [];
-    root = V10;
-    descriptor = None;
-    sessions = 4;
-    groups = 4;
-    area = 262382;
-    held = false;
-    span = 0;
-  }
+  pub plain : config_of (worked_line class.C None false)
+      ≡ record (worked_config device_class.C 9) { hw = 7; rows = 3; key = 8 ∷ [] }
 
 -- ---- two sessions of a stranger, and what a summary counts
 
@@ -284,7 +284,7 @@ heard_session = record {
 
 abbrev pub counted_device : Option Session → DeviceState
 counted_device session =
-    let device = device_of class.C 1 0 0 [] None false false false in
+    let device = device_of (worked_line class.C None false) in
     record device { sessions = record device.sessions { first = session } }
 
 -- what a session shows, with this verdict
@@ -298,7 +298,7 @@ shown_whole v = Some (record { received = 4; missing = 0; verdict = v; file = 7 
 -- a device whose session is of index 1
 abbrev pub second_device : Option Session → DeviceState
 second_device session =
-    let device = device_of class.C 1 0 0 [] None false false false in
+    let device = device_of (worked_line class.C None false) in
     record device { sessions = record device.sessions { second = session } }
 
 abbrev pub counted_server : ServerState

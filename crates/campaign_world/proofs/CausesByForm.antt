@@ -70,7 +70,7 @@ of_event world facts (form.Image frag_size parity index) a comes event = absurd 
 of_event world facts (form.Group id addr key min max) a comes event = absurd cc
 of_event world facts (form.WindowC start timeout freq dr) a comes event = absurd cc
 of_event world facts (form.WindowB start periodicity timeout freq dr) a comes event = absurd cc
-of_event world facts (form.Device id class hw rows offset key descriptor v1 k11 flash) a comes event = absurd cc
+of_event world facts (form.Device dev) a comes event = absurd cc
 
 of_plan : (world : WorldState) (size : ℕ) (facts : Facts) (f : Form) → length world.server.image ≡ size
     → length world.devices ≡ facts.count → world.flash ≡ facts.flash → is_in_order world.section f ≡ true → is_event_or_end f ≡ false
@@ -81,10 +81,10 @@ of_plan world size facts (form.Image frag_size parity index) sized count ids com
 of_plan world size facts (form.Group id addr key min max) sized count ids comes plan = rw (comes) refl
 of_plan world size facts (form.WindowC start timeout freq dr) sized count ids comes plan = rw (comes) refl
 of_plan world size facts (form.WindowB start periodicity timeout freq dr) sized count ids comes plan = rw (comes) refl
-of_plan world size facts (form.Device id class hw rows offset key descriptor v1 k11 flash) sized count ids comes plan =
+of_plan world size facts (form.Device dev) sized count ids comes plan =
     rw (comes, count, ids) (limited
-    (in_range (form.Device id class hw rows offset key descriptor v1 k11 flash) && fits_script size facts.count (form.Device id class hw rows offset key descriptor v1 k11 flash))
-    (fits_flash (length facts.flash) (form.Device id class hw rows offset key descriptor v1 k11 flash)))
+    (in_range (form.Device dev) && fits_script size facts.count (form.Device dev))
+    (fits_flash (length facts.flash) (form.Device dev)))
 of_plan world size facts f sized count ids comes plan = absurd cc
 
 -- while the campaign is planned
@@ -148,7 +148,7 @@ of_played lines kept phase held has_ended devices f cause is over count gives =
     plan_now (form.Group id addr key min max) plan = refl
     plan_now (form.WindowC start timeout freq dr) plan = refl
     plan_now (form.WindowB start periodicity timeout freq dr) plan = refl
-    plan_now (form.Device id class hw rows offset key descriptor v1 k11 flash) plan = refl
+    plan_now (form.Device dev) plan = refl
     plan_now f plan = absurd cc
 
     by_kind : (event : Bool) → is_event_or_end f ≡ event → length devices ≡ length held.devices

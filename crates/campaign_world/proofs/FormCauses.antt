@@ -13,6 +13,7 @@ use Rattle.campaign_server.specs.declared.plan.Field.{Field}
 use Rattle.campaign_server.specs.Server.{first_count, first_server}
 use Rattle.campaign_server.specs.Fragments.{next_fragment, last_fragment, has_no_count, status_to_all}
 use Rattle.script_lines.specs.declared.forms.Form.{Form}
+use Rattle.script_lines.specs.declared.forms.DeviceLine.{DeviceLine}
 use Rattle.script_lines.specs.declared.forms.Form.TheVariants as form
 use Rattle.script_lines.specs.Ranges.{in_range}
 use Rattle.report_lines.specs.declared.faults.LineWhy.{LineWhy}
@@ -31,7 +32,6 @@ use Rattle.campaign_world.specs.PhaseInside.{section_by}
 use Rattle.report_lines.specs.declared.faults.LineError.{LineError}
 use Rattle.flash_session.specs.Layout.{records_place}
 use Rattle.campaign_world.specs.Making.{device_of, formats_of, span_of}
-use Rattle.script_lines.specs.declared.forms.Class.{Class}
 use Rattle.script_lines.specs.declared.forms.Class.TheVariants as class
 use Rattle.campaign_world.specs.WorldInside.{IsPlanned, IsPlanning, IsSized, IsWindowed, IsToBegin}
 use Rattle.campaign_world.proofs.Sections.{by_section, never, clash}
@@ -208,9 +208,10 @@ time_within f time ranges is = let fits : nat_le time max_time ≡ true = rw is 
 
 -- ---- what is fine of what is held
 
-some_devices : (n : ℕ) → (ds : List DeviceState) × (length ds ≡ n)
+-- so many devices, whichever
+pub some_devices : (n : ℕ) → (ds : List DeviceState) × (length ds ≡ n)
 some_devices zero = ([], refl)
-some_devices (suc n) = let more = some_devices n in (device_of class.C 0 0 0 [] None false false false ∷ more.0, ap suc more.1)
+some_devices (suc n) = let more = some_devices n in (device_of (record { id = 0; class = class.C; hw = 0; rows = 0; offset = 0; key = []; descriptor = None; v1 = false; k11 = false; flash = false }) ∷ more.0, ap suc more.1)
 
 pub fine_of : (lines : ℕ) (section : Section) (kept : Option LineError) (held : HeldCampaign) (form : Form)
     → IsFine (held_with lines section kept held) form → (is_in_order section form ≡ true) × IsTested held form
@@ -241,7 +242,7 @@ event_at s (form.Image frag_size parity index) event comes = absurd cc
 event_at s (form.Group id addr key min max) event comes = absurd cc
 event_at s (form.WindowC start timeout freq dr) event comes = absurd cc
 event_at s (form.WindowB start periodicity timeout freq dr) event comes = absurd cc
-event_at s (form.Device id class hw rows offset key descriptor v1 k11 flash) event comes = absurd cc
+event_at s (form.Device dev) event comes = absurd cc
 event_at s (form.At time) event comes = at_events_only (λ (x : Section). is_in_order x (form.At time)) refl refl refl refl refl refl s comes
 event_at s (form.Wake device) event comes = at_events_only (λ (x : Section). is_in_order x (form.Wake device)) refl refl refl refl refl refl s comes
 event_at s (form.Migrate device) event comes = at_events_only (λ (x : Section). is_in_order x (form.Migrate device)) refl refl refl refl refl refl s comes
@@ -287,10 +288,10 @@ header_at s f is comes =
 alone : (plan : Plan) → plan.group ≡ None → plan.window ≡ None → IsWindowed plan
 alone plan no_group no_window = rw (no_group, no_window) refl
 
-pub joins_at : (image : List ℕ) (s : Section) (plan : Plan) (devices : List Late) (f : Form) (id hw rows offset : ℕ) (k : Class) (key : List ℕ) (descriptor : Option ℕ) (v1 k11 flash : Bool)
-    → f ≡ form.Device id k hw rows offset key descriptor v1 k11 flash → is_in_order s f ≡ true → IsPlanned image s plan devices → IsSized image plan devices × IsWindowed plan
-joins_at image s plan devices f id hw rows offset k key descriptor v1 k11 flash is comes planned =
-    by_section (λ (x : Section). is_in_order x (form.Device id k hw rows offset key descriptor v1 k11 flash) ≡ true → IsPlanned image x plan devices
+pub joins_at : (image : List ℕ) (s : Section) (plan : Plan) (devices : List Late) (f : Form) (dev : DeviceLine)
+    → f ≡ form.Device dev → is_in_order s f ≡ true → IsPlanned image s plan devices → IsSized image plan devices × IsWindowed plan
+joins_at image s plan devices f dev is comes planned =
+    by_section (λ (x : Section). is_in_order x (form.Device dev) ≡ true → IsPlanned image x plan devices
     → IsSized image plan devices × IsWindowed plan) never never (λ c was. (was.0, alone plan was.1 was.2)) never (λ c was. was)
     (λ c was. (was.0, was.1)) never never s (rw is at comes) planned
 
@@ -383,28 +384,28 @@ spans true is = (omega arith, omega arith)
 spans false is = absurd cc
 
 -- and a device line, numbers that a device takes
-pub record Fitting (count id hw rows offset : ℕ) : Type 0 where
-  pub hw_fits : hw < 2 ^ 32
-  pub few : rows ≤ max_rows
-  pub offset_fits : offset < 2 ^ 32
+pub record Fitting (count : ℕ) (dev : DeviceLine) : Type 0 where
+  pub hw_fits : dev.hw < 2 ^ 32
+  pub few : dev.rows ≤ max_rows
+  pub offset_fits : dev.offset < 2 ^ 32
   pub next : count < max_devices
 
-pub fitting : (len count : ℕ) (f : Form) (id hw rows offset : ℕ) (k : Class) (key : List ℕ) (descriptor : Option ℕ) (v1 k11 flash : Bool) → f ≡ form.Device id k hw rows offset key descriptor v1 k11 flash → in_range f ≡ true
-    → fits_script len count f ≡ true → Fitting count id hw rows offset
+pub fitting : (len count : ℕ) (f : Form) (dev : DeviceLine) → f ≡ form.Device dev → in_range f ≡ true → fits_script len count f ≡ true
+    → Fitting count dev
 unfolding in_range
-fitting len count f id hw rows offset k key descriptor v1 k11 flash is ranges fits =
-    let all : (nat_le 1 id && nat_le id max_devices && nat_lt hw (2 ^ 32) && nat_le rows max_rows && nat_lt offset (2 ^ 32)) ≡ true = rw is at ranges in
-    let a = and_parts (nat_le 1 id && nat_le id max_devices && nat_lt hw (2 ^ 32) && nat_le rows max_rows) (nat_lt offset (2 ^ 32)) all in
-    let b = and_parts (nat_le 1 id && nat_le id max_devices && nat_lt hw (2 ^ 32)) (nat_le rows max_rows) a.0 in
-    let c = and_parts (nat_le 1 id && nat_le id max_devices) (nat_lt hw (2 ^ 32)) b.0 in
-    let d = and_parts (nat_le 1 id) (nat_le id max_devices) c.0 in
-    let next : (id == count + 1) ≡ true = rw is at fits in
-    let is_next : id ≡ count + 1 = grind (arith, nat_tests, next) in
+fitting len count f dev is ranges fits =
+    let all : (nat_le 1 dev.id && nat_le dev.id max_devices && nat_lt dev.hw (2 ^ 32) && nat_le dev.rows max_rows && nat_lt dev.offset (2 ^ 32)) ≡ true = rw is at ranges in
+    let a = and_parts (nat_le 1 dev.id && nat_le dev.id max_devices && nat_lt dev.hw (2 ^ 32) && nat_le dev.rows max_rows) (nat_lt dev.offset (2 ^ 32)) all in
+    let b = and_parts (nat_le 1 dev.id && nat_le dev.id max_devices && nat_lt dev.hw (2 ^ 32)) (nat_le dev.rows max_rows) a.0 in
+    let c = and_parts (nat_le 1 dev.id && nat_le dev.id max_devices) (nat_lt dev.hw (2 ^ 32)) b.0 in
+    let d = and_parts (nat_le 1 dev.id) (nat_le dev.id max_devices) c.0 in
+    let next : (dev.id == count + 1) ≡ true = rw is at fits in
+    let is_next : dev.id ≡ count + 1 = grind (arith, nat_tests, next) in
     record {
       hw_fits = ltb-true _ _ c.1;
       few = leb-true _ _ b.1;
       offset_fits = ltb-true _ _ a.1;
-      next = omega (arith, is_next, leb-true id max_devices d.1);
+      next = omega (arith, is_next, leb-true dev.id max_devices d.1);
     }
 
 -- ---- the plan after the devices has no wrong field

@@ -31,7 +31,7 @@ is_event_or_end (Image frag_size parity index) = false
 is_event_or_end (Group id addr key min max) = false
 is_event_or_end (WindowC start timeout freq dr) = false
 is_event_or_end (WindowB start periodicity timeout freq dr) = false
-is_event_or_end (Device id class hw rows offset key descriptor v1 k11 flash) = false
+is_event_or_end (Device dev) = false
 is_event_or_end form = true
 
 -- the form may come here
@@ -39,11 +39,11 @@ abbrev pub is_in_order : Section → Form → Bool
 is_in_order section.Header Header = true
 is_in_order section.Image (Image frag_size parity index) = true
 is_in_order section.Group (Group id addr key min max) = true
-is_in_order section.Group (Device id class hw rows offset key descriptor v1 k11 flash) = true
+is_in_order section.Group (Device dev) = true
 is_in_order section.Window (WindowC start timeout freq dr) = true
 is_in_order section.Window (WindowB start periodicity timeout freq dr) = true
-is_in_order section.Device (Device id class hw rows offset key descriptor v1 k11 flash) = true
-is_in_order section.Devices (Device id class hw rows offset key descriptor v1 k11 flash) = true
+is_in_order section.Device (Device dev) = true
+is_in_order section.Devices (Device dev) = true
 is_in_order section.Devices form = is_event_or_end form
 is_in_order section.Events form = is_event_or_end form
 is_in_order here form = false
@@ -58,7 +58,7 @@ has_ended here = false
 -- an image of this length has at most 4,096 fragments; after so many devices the ID is the next
 abbrev pub fits_script : (len count : ℕ) → Form → Bool
 fits_script len count (Image frag_size parity index) = nat_le (nb_frag_of len frag_size) max_pieces
-fits_script len count (Device id class hw rows offset key descriptor v1 k11 flash) = id == count + 1
+fits_script len count (Device dev) = dev.id == count + 1
 fits_script len count form = true
 
 -- ---- device, unsent, time
@@ -122,7 +122,7 @@ is_not_past now form = true
 
 -- after so many devices with a flash there is room for one more
 abbrev pub fits_flash : (count : ℕ) → Form → Bool
-fits_flash count (Device id class hw rows offset key descriptor v1 k11 flash) = not flash || nat_lt count max_flash_devices
+fits_flash count (Device dev) = not dev.flash || nat_lt count max_flash_devices
 fits_flash count form = true
 
 -- anybody's payload has at most 242 bytes

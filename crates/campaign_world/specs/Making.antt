@@ -23,6 +23,7 @@ use Rattle.campaign_server.specs.Asking.{request_of}
 use Rattle.campaign_server.specs.Fragments.{next_fragment, after_fragment, status_to_all, after_status_to_all}
 use Rattle.campaign_server.specs.Uplinks.{UplinkStep, uplink_step}
 use Rattle.script_lines.specs.declared.forms.Class.{Class}
+use Rattle.script_lines.specs.declared.forms.DeviceLine.{DeviceLine}
 use Rattle.script_lines.specs.declared.forms.Class.TheVariants as class
 use Rattle.script_lines.specs.declared.forms.Form.{Form}
 use Rattle.script_lines.specs.declared.forms.Form.TheVariants.{Header, Image, Group, WindowC, WindowB, Device, At, Wake, Migrate, Power, Ask, Frag, Status, Down, Raw, Air, RawAir, Up, End}
@@ -65,28 +66,25 @@ abbrev pub span_of : (held : Bool) → ℕ
 span_of held = if held then flash_span else 0
 
 -- a device has 4 sessions, 4 groups, and an area for the largest file
-abbrev pub config_of : Class → (hw rows offset : ℕ) → (key : List ℕ) → (descriptor : Option ℕ) → (v1 k11 flash : Bool)
-    → DeviceConfig
-config_of class hw rows offset key descriptor v1 k11 flash = record {
-  class = class_of class;
-  hw = hw;
-  formats = formats_of v1;
-  rows = rows;
-  offset = offset;
-  key = key;
-  root = root_of k11;
-  descriptor = descriptor;
+abbrev pub config_of : DeviceLine → DeviceConfig
+config_of dev = record {
+  class = class_of dev.class;
+  hw = dev.hw;
+  formats = formats_of dev.v1;
+  rows = dev.rows;
+  offset = dev.offset;
+  key = dev.key;
+  root = root_of dev.k11;
+  descriptor = dev.descriptor;
   sessions = 4;
   groups = 4;
   area = max_area;
-  held = flash;
-  span = span_of flash;
+  held = dev.flash;
+  span = span_of dev.flash;
 }
 
-abbrev pub device_of : Class → (hw rows offset : ℕ) → (key : List ℕ) → (descriptor : Option ℕ) → (v1 k11 flash : Bool)
-    → DeviceState
-device_of class hw rows offset key descriptor v1 k11 flash =
-    first_device (config_of class hw rows offset key descriptor v1 k11 flash)
+abbrev pub device_of : DeviceLine → DeviceState
+device_of dev = first_device (config_of dev)
 
 -- after its line a device with a flash is one of them
 abbrev pub with_flash : (ids : List ℕ) → (id : ℕ) → (flash : Bool) → List ℕ
@@ -195,8 +193,7 @@ after_form world (WindowC start timeout freq dr) =
     with_plan world (with_window world.server.plan kind.C start timeout freq dr) section.Device
 after_form world (WindowB start periodicity timeout freq dr) =
     with_plan world (with_window world.server.plan (kind.B periodicity) start timeout freq dr) section.Device
-after_form world (Device id class hw rows offset key descriptor v1 k11 flash) =
-    with_joined world id (config_of class hw rows offset key descriptor v1 k11 flash)
+after_form world (Device dev) = with_joined world dev.id (config_of dev)
 after_form world (At time) = at_events (record world { time = time })
 after_form world (Wake device) = with_event_of world device (Wake device)
 after_form world (Migrate device) = with_event_of world device (Migrate device)

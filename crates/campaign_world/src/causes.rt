@@ -25,7 +25,7 @@ pub fn is_event_or_end(form: &Form) -> bool
         Form::Group { .. } => false,
         Form::WindowC { .. } => false,
         Form::WindowB { .. } => false,
-        Form::Device { .. } => false,
+        Form::Device(_) => false,
         _ => true,
     }
 }
@@ -37,10 +37,10 @@ pub fn is_in_order(section: Section, form: &Form) -> bool
     match section {
         Section::Header => matches!(form, Form::Header),
         Section::Image => matches!(form, Form::Image { .. }),
-        Section::Group => matches!(form, Form::Group { .. } | Form::Device { .. }),
+        Section::Group => matches!(form, Form::Group { .. } | Form::Device(_)),
         Section::Window => matches!(form, Form::WindowC { .. } | Form::WindowB { .. }),
-        Section::Device => matches!(form, Form::Device { .. }),
-        Section::Devices => matches!(form, Form::Device { .. }) || is_event_or_end(form),
+        Section::Device => matches!(form, Form::Device(_)),
+        Section::Devices => matches!(form, Form::Device(_)) || is_event_or_end(form),
         Section::Events => is_event_or_end(form),
         Section::Ended => false,
     }
@@ -58,7 +58,7 @@ pub fn fits_script(len: usize, count: usize, form: &Form) -> bool
         Form::Image { frag_size, .. } => {
             len.div_ceil(*frag_size as usize) <= MAX_PIECES as usize
         }
-        Form::Device { id, .. } => *id == count as u64 + 1,
+        Form::Device(line) => line.id == count as u64 + 1,
         _ => true,
     }
 }
@@ -134,7 +134,7 @@ pub fn fits_flash(count: usize, form: &Form) -> bool
     ensures { result ≡ fits_flash count form.now }
 {
     match form {
-        Form::Device { flash, .. } => !*flash || count < MAX_FLASH_DEVICES,
+        Form::Device(line) => !line.flash || count < MAX_FLASH_DEVICES,
         _ => true,
     }
 }

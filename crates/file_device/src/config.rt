@@ -19,26 +19,19 @@ pub fn config_of(line: &[u8]) -> Option<DeviceConfig>
         return None;
     }
     match read {
-        Form::Device {
-            id: _id,
-            class,
-            hw,
-            rows,
-            offset,
-            key,
-            descriptor,
-            v1,
-            k11,
-            flash: _flash,
-        } => Some(DeviceConfig {
-            class: class_of(class),
-            hw: u32::try_from(hw).ok()?,
-            formats: if v1 { 1 } else { 2 },
-            rows: u16::try_from(rows).ok()?,
-            offset: u32::try_from(offset).ok()?,
-            key,
-            root: if k11 { RootKind::V11 } else { RootKind::V10 },
-            descriptor,
+        Form::Device(line) => Some(DeviceConfig {
+            class: class_of(line.class),
+            hw: u32::try_from(line.hw).ok()?,
+            formats: if line.v1 { 1 } else { 2 },
+            rows: u16::try_from(line.rows).ok()?,
+            offset: u32::try_from(line.offset).ok()?,
+            key: line.key,
+            root: if line.k11 {
+                RootKind::V11
+            } else {
+                RootKind::V10
+            },
+            descriptor: line.descriptor,
             sessions: 4,
             groups: 4,
             area: MAX_AREA,

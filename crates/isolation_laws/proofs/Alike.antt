@@ -108,8 +108,8 @@ form_by w ds here (Image size parity index) zip = record { devices = zip; rest =
 form_by w ds here (Group id addr key min max) zip = record { devices = zip; rest = refl; place = inl refl }
 form_by w ds here (WindowC start timeout freq dr) zip = record { devices = zip; rest = refl; place = inl refl }
 form_by w ds here (WindowB start periodicity timeout freq dr) zip = record { devices = zip; rest = refl; place = inl refl }
-form_by w ds here (Device id class hw rows offset key descriptor v1 k11 flash) zip =
-    let first : DeviceState = first_device (config_of class hw rows offset key descriptor v1 k11 flash) in
+form_by w ds here (Device dev) zip =
+    let first : DeviceState = first_device (config_of dev) in
     record { devices = zip_more IsAlike w.devices ds first first zip refl; rest = refl; place = inl refl }
 form_by w ds here (At time) zip = record { devices = zip; rest = refl; place = inl refl }
 form_by w ds here (Power n) zip = record { devices = zip; rest = refl; place = inl refl }
@@ -133,7 +133,7 @@ form_like w v form like =
 
 -- where events come, devices' lines may come besides
 more_may : (form : Form) → is_in_order section.Events form ≡ true → is_in_order section.Devices form ≡ true
-more_may (Device id class hw rows offset key descriptor v1 k11 flash) is = refl
+more_may (Device dev) is = refl
 more_may form is = is
 
 place_may : (here place : Section) (form : Form) → IsPlace here place → is_in_order here form ≡ true → is_in_order place form ≡ true

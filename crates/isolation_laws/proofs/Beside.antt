@@ -171,7 +171,7 @@ calm campaign.B p (Across campaign.B by number device word) is = reached_calm de
 calm x p Nobody is = tt
 
 lone_joined : (y : Campaign) (f : Form) → IsLone f → joined y f ≡ []
-lone_joined y (form.Device id class hw rows offset key descriptor v1 k11 flash) lone = absurd (true≢false (sym lone.0))
+lone_joined y (form.Device dev) lone = absurd (true≢false (sym lone.0))
 lone_joined y f lone = refl
 
 none_join : (x : Campaign) (t : Target) → IsOfOther x t → newcomers t ≡ []
@@ -342,8 +342,8 @@ b_no_more a b f plan (inl begun) may = never_planned a begun (and_parts (is_in_o
 b_no_more a b f plan (inr begun) may = no_more b f begun plan (and_parts (is_in_order b f) (is_planned a) may).0
 
 no_plan_more : (a b : Section) (named : Option Campaign) (f : Form) → is_event_or_end f ≡ false → EitherBegun a b → plan_may_come a b named f ≡ true → ⊥
-no_plan_more a b named (form.Device id class hw rows offset key descriptor v1 k11 flash) plan begun may =
-    both_no_more a b (form.Device id class hw rows offset key descriptor v1 k11 flash) refl begun may
+no_plan_more a b named (form.Device dev) plan begun may =
+    both_no_more a b (form.Device dev) refl begun may
 no_plan_more a b None f plan begun may = both_no_more a b f plan begun may
 no_plan_more a b (Some campaign.A) f plan begun may = a_no_more a b f plan begun may
 no_plan_more a b (Some campaign.B) f plan begun may = b_no_more a b f plan begun may
@@ -363,7 +363,7 @@ plan_over p pair_form begun none plan =
 -- ---- what concerns both
 
 event_next : (n : ℕ) (f : Form) → is_event_or_end f ≡ true → is_next n f ≡ true
-event_next n (form.Device id class hw rows offset key descriptor v1 k11 flash) event = absurd (true≢false (sym event))
+event_next n (form.Device dev) event = absurd (true≢false (sym event))
 event_next n f event = refl
 
 event_apart : (plan : Plan) (named : Option Campaign) (f : Form) → is_event_or_end f ≡ true → is_apart plan named f ≡ true
@@ -374,7 +374,7 @@ event_apart plan (Some campaign.A) f event = refl
 event_apart plan None f event = refl
 
 event_flash : (n : ℕ) (f : Form) → is_event_or_end f ≡ true → fits_flash n f ≡ true
-event_flash n (form.Device id class hw rows offset key descriptor v1 k11 flash) event = absurd (true≢false (sym event))
+event_flash n (form.Device dev) event = absurd (true≢false (sym event))
 event_flash n f event = refl
 
 by_events : (b : Bool) (events plan : Bool) → b ≡ true → cond b events plan ≡ true → events ≡ true

@@ -59,7 +59,7 @@ form_group w (form.Image frag_size parity index) plain = refl
 form_group w (form.Group id addr key min max) plain = absurd plain
 form_group w (form.WindowC start timeout freq dr) plain = refl
 form_group w (form.WindowB start periodicity timeout freq dr) plain = refl
-form_group w (form.Device id class hw rows offset key descriptor v1 k11 flash) plain = refl
+form_group w (form.Device dev) plain = refl
 form_group w f plain = ap (λ p. p.group) (made_settled w f refl).plan
 
 said_group : (w : WorldState) (said : Said) → IfOwn IsNoGroup said → (after_said w said).server.plan.group ≡ w.server.plan.group

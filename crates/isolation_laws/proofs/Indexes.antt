@@ -52,7 +52,7 @@ said_late w (Reached n word down) fine late = refl
 not_image_fits : (index : ℕ) (form : Form) → ((size parity its : ℕ) → form ≡ Image size parity its → its ≡ index) → Has form → HasFields index form
 not_image_fits index (Image size parity its) same has = same size parity its refl
 not_image_fits index (Group id addr key min max) same has = has
-not_image_fits index (Device id class hw rows offset key descriptor v1 k11 flash) same has = has
+not_image_fits index (Device dev) same has = has
 not_image_fits index (Raw n port payload word) same has = absurd has
 not_image_fits index (RawAir n bytes word) same has = absurd has
 not_image_fits index form same has = tt

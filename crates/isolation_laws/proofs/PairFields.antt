@@ -14,7 +14,7 @@ use Rattle.campaign_laws.proofs.FormBytes.{may_name, IsNamed, Fits, nothing, eit
 -- what a form of such a line has
 abbrev pub Has : Form → Type 0
 Has (Group id addr key min max) = (addr < 2 ^ 32) × IsBlock key
-Has (Device id class hw rows offset key descriptor v1 k11 flash) = IsBlock key
+Has (Device dev) = IsBlock dev.key
 Has (Raw device port payload random) = ⊥
 Has (RawAir device bytes random) = ⊥
 Has form = Unit {0}

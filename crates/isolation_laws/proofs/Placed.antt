@@ -83,7 +83,7 @@ placed pair id owner there =
 -- ---- how many devices a campaign has after a line
 
 abbrev IsNoDevice : Form → Type 0
-IsNoDevice (form.Device id class hw rows offset key descriptor v1 k11 flash) = ⊥
+IsNoDevice (form.Device dev) = ⊥
 IsNoDevice f = Unit {0}
 
 event_long : (w : WorldState) (n : ℕ) (o : Option Event) → length (with_event w n o).devices ≡ length w.devices
@@ -96,7 +96,7 @@ form_long w (form.Image frag_size parity index) plain = refl
 form_long w (form.Group id addr key min max) plain = refl
 form_long w (form.WindowC start timeout freq dr) plain = refl
 form_long w (form.WindowB start periodicity timeout freq dr) plain = refl
-form_long w (form.Device id class hw rows offset key descriptor v1 k11 flash) plain = absurd plain
+form_long w (form.Device dev) plain = absurd plain
 form_long w f plain = (made_many w f refl).devices
 
 -- ---- whose the next device is
@@ -128,7 +128,7 @@ quiet_long x pair (Across y by number device word) q =
 quiet_long x pair Nobody q = refl
 
 none_joined : (x : Campaign) (f : Form) → IsNoDevice f → joined x f ≡ []
-none_joined x (form.Device id class hw rows offset key descriptor v1 k11 flash) plain = absurd plain
+none_joined x (form.Device dev) plain = absurd plain
 none_joined x f plain = refl
 
 quiet_joins : (t : Target) → IsQuiet t → newcomers t ≡ []
@@ -146,15 +146,15 @@ quiet : (pair : PairState) (t : Target) → IsQuiet t → Joins pair t
 quiet pair t q = nobody (quiet_joins t q) (λ x. quiet_long x pair t q)
 
 quiet_at : (x : Campaign) (f : Form) → is_at_device f ≡ true → IsNoDevice f
-quiet_at x (form.Device id class hw rows offset key descriptor v1 k11 flash) is = absurd cc
+quiet_at x (form.Device dev) is = absurd cc
 quiet_at x f is = tt
 
 named_joins : (pair : PairState) (x : Campaign) (f : Form)
     → Joins pair (named_target pair.owners (count_of (length pair.a.devices) (length pair.b.devices) x) x f)
 unfolding after_form
-named_joins pair campaign.A (form.Device id class hw rows offset key descriptor v1 k11 flash) =
+named_joins pair campaign.A (form.Device dev) =
     next campaign.A refl (length_push pair.a.devices _) refl
-named_joins pair campaign.B (form.Device id class hw rows offset key descriptor v1 k11 flash) =
+named_joins pair campaign.B (form.Device dev) =
     next campaign.B refl (length_push pair.b.devices _) refl
 named_joins pair x f =
     quiet pair _ (named_if (λ y g. IsNoDevice g) quiet_at pair.owners (count_of (length pair.a.devices) (length pair.b.devices) x) x f tt)

@@ -94,8 +94,8 @@ form_rested image index w (Image size parity its) keeps own fine plain k = recor
 form_rested image index w (Group id addr key min max) keeps own fine plain k = record { devices = k.devices; sent = k.sent }
 form_rested image index w (WindowC start timeout freq dr) keeps own fine plain k = record { devices = k.devices; sent = k.sent }
 form_rested image index w (WindowB start periodicity timeout freq dr) keeps own fine plain k = record { devices = k.devices; sent = k.sent }
-form_rested image index w (Device id class hw rows offset key descriptor v1 k11 flash) keeps own fine plain k =
-    record { devices = all_more Rests w.devices (first_device (config_of class hw rows offset key descriptor v1 k11 flash)) k.devices refl; sent = k.sent }
+form_rested image index w (Device dev) keeps own fine plain k =
+    record { devices = all_more Rests w.devices (first_device (config_of dev)) k.devices refl; sent = k.sent }
 form_rested image index w (Time time) keeps own fine plain k = record { devices = k.devices; sent = k.sent }
 form_rested image index w (Power n) keeps own fine plain k = record { devices = k.devices; sent = k.sent }
 form_rested image index w (Wake n) keeps own fine plain k =

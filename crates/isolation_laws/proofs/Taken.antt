@@ -39,13 +39,13 @@ SaysFit said = IfOwn Has said
 
 has_at : (x : Campaign) (f : Form) → is_at_device f ≡ true → Has f
 has_at x (form.Group id addr key min max) is = absurd cc
-has_at x (form.Device id class hw rows offset key descriptor v1 k11 flash) is = absurd cc
+has_at x (form.Device dev) is = absurd cc
 has_at x (form.Raw device port payload word) is = absurd cc
 has_at x (form.RawAir device bytes word) is = absurd cc
 has_at x f is = tt
 
 own_has : (count : ℕ) (f : Form) → Has f → Has (own_form count f)
-own_has count (form.Device id class hw rows offset key descriptor v1 k11 flash) has = has
+own_has count (form.Device dev) has = has
 own_has count f has = has
 
 target_fits : (owners : List Owner) (count_a count_b : ℕ) (named : Option Campaign) (f : Form) → Has f

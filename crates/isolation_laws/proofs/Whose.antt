@@ -75,7 +75,7 @@ named_of_it : (x z : Campaign) (owners : List Owner) (count : ℕ) (f : Form) �
     → names_one_of (other x) owners f ≡ false → IsOf x (named_target owners count z f)
 named_of_it x z owners count (form.Down number n word) event one two = to_its_owner x z way.Downlink number word (numbered owners n) one two
 named_of_it x z owners count (form.Air number n word) event one two = to_its_owner x z way.Air number word (numbered owners n) one two
-named_of_it x z owners count (form.Device id class hw rows offset key descriptor v1 k11 flash) event one two = absurd cc
+named_of_it x z owners count (form.Device dev) event one two = absurd cc
 named_of_it x z owners count f event one two = (not_other z x one, event)
 
 pub of_it : (x : Campaign) (owners : List Owner) (count_a count_b : ℕ) (named : Option Campaign) (f : Form) → is_event_or_end f ≡ true
@@ -153,7 +153,7 @@ named_of_other x z owners count (form.Image frag_size parity index) event name i
 named_of_other x z owners count (form.Group id addr key min max) event name is = absurd cc
 named_of_other x z owners count (form.WindowC start timeout freq dr) event name is = absurd cc
 named_of_other x z owners count (form.WindowB start periodicity timeout freq dr) event name is = absurd cc
-named_of_other x z owners count (form.Device id class hw rows offset key descriptor v1 k11 flash) event name is = absurd cc
+named_of_other x z owners count (form.Device dev) event name is = absurd cc
 named_of_other x z owners count f event name is = absurd cc
 
 pub of_other : (x : Campaign) (owners : List Owner) (count_a count_b : ℕ) (named : Option Campaign) (f : Form) → is_event_or_end f ≡ true
@@ -166,7 +166,7 @@ of_other x owners count_a count_b (Some z) f event name is = named_of_other x z 
 
 named_alike : (owners : List Owner) (m n : ℕ) (x : Campaign) (f : Form) → is_event_or_end f ≡ true
     → named_target owners m x f ≡ named_target owners n x f
-named_alike owners m n x (form.Device id class hw rows offset key descriptor v1 k11 flash) event = absurd cc
+named_alike owners m n x (form.Device dev) event = absurd cc
 named_alike owners m n x f event = refl
 
 pub same_target : (owners : List Owner) (a b c d : ℕ) (named : Option Campaign) (f : Form) → is_event_or_end f ≡ true

@@ -1,5 +1,5 @@
 -- The first cause for which a line of two campaigns is refused, test by test.
-use Rattle.std.proofs.Common.{◌≡◌, ℕ, ◌≤◌, ◌<◌, ◌^◌, zero, suc, Bool, true, false, not, cond, ◌&&◌, List, [], ◌∷◌, length, nat_lt, nat_le, Option, Some, None, refl, sym, ap, ◌∙◌, subst, arith}
+use Rattle.std.proofs.Common.{◌≡◌, ℕ, ◌≤◌, ◌<◌, ◌^◌, Bool, true, false, not, cond, ◌&&◌, List, length, nat_lt, nat_le, Option, Some, None, refl, sym, ap, ◌∙◌, subst, arith}
 use Rattle.std.proofs.Math.Bool.{or-true}
 use Rattle.std.proofs.lemmas.Bool.{le-leb, lt-ltb, leb-true, ltb-true, and_parts}
 use Rattle.std.proofs.lemmas.Bool.Decides.{nat_tests}
@@ -11,9 +11,9 @@ use Rattle.script_lines.specs.declared.forms.Class.TheVariants as class
 use Rattle.script_lines.specs.declared.forms.Form.{Form}
 use Rattle.script_lines.specs.declared.forms.Form.TheVariants as form
 use Rattle.script_lines.specs.Ranges.{in_range}
+use Rattle.campaign_world.proofs.FormCauses.{some_devices}
 use Rattle.campaign_world.specs.declared.numbered.SentPayload.{SentPayload}
 use Rattle.campaign_world.specs.Causes.{takes_events, is_device, form_cause}
-use Rattle.campaign_world.specs.Making.{device_of}
 use Rattle.campaign_world.specs.declared.section.Section.{Section}
 use Rattle.campaign_world.specs.HeldWorld.{HeldWorld, IsFine, world_of}
 use Rattle.script_lines.specs.declared.forms.PairForm.{PairForm}
@@ -80,10 +80,6 @@ target_is held a b owners count_a count_b form target is owners_are a_is b_is lo
     rw (long_a, long_b, ← owners_are, ← a_is, ← b_is) is
 
 -- ---- nothing refuses it in its own campaign
-
-some_devices : (n : ℕ) → (ds : List DeviceState) × (length ds ≡ n)
-some_devices zero = ([], refl)
-some_devices (suc n) = let more = some_devices n in (device_of class.C 0 0 0 [] None false false false ∷ more.0, ap suc more.1)
 
 pub neither : (one other : Option LineWhy) → first_of one other ≡ None → (one ≡ None) × (other ≡ None)
 neither None other is = (refl, is)
@@ -189,7 +185,7 @@ named_across owners count y (form.Air n d w) x by number device word is = record
   device = d;
   is = ap (λ (k : ℕ). form.Air n d k) (over_across (numbered owners d) y x by way.Air number device word n w is);
 }
-named_across owners count y (form.Device id k hw rows offset key descriptor v1 k11 flash) x by number device word is = absurd cc
+named_across owners count y (form.Device dev) x by number device word is = absurd cc
 named_across owners count y f x by number device word is = absurd cc
 
 across_over : (owners : List Owner) (count_a count_b : ℕ) (named : Option Campaign) (f : Form) (x : Campaign) (by : Way)

@@ -56,7 +56,7 @@ AtDevices Q = (x : Campaign) (f : Form) → is_at_device f ≡ true → Q x f
 
 -- a form as a line that names its campaign says it: a device has the number after so many
 abbrev pub own_form : (count : ℕ) → Form → Form
-own_form count (form.Device id class hw rows offset key descriptor v1 k11 flash) = form.Device (count + 1) class hw rows offset key descriptor v1 k11 flash
+own_form count (form.Device dev) = form.Device (record dev { id = count + 1 })
 own_form count f = f
 
 pub common_if : (Q : Campaign → Form → Type 0) → AtDevices Q → (owners : List Owner) (f : Form) → IfOne Q (common_target owners f)

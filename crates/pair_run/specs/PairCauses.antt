@@ -39,8 +39,8 @@ is_planned here = false
 
 -- the plan of a comes before that of b, and both before the devices
 abbrev pub plan_may_come : (a b : Section) → Option Campaign → Form → Bool
-plan_may_come a b named (form.Device id class hw rows offset key descriptor v1 k11 flash) =
-    let device : Form = form.Device id class hw rows offset key descriptor v1 k11 flash in
+plan_may_come a b named (form.Device dev) =
+    let device : Form = form.Device dev in
     is_in_order a device && is_in_order b device
 plan_may_come a b None f = is_in_order a f && is_in_order b f
 plan_may_come a b (Some campaign.A) f = is_in_order a f && is_unplanned b
@@ -66,7 +66,7 @@ is_apart plan named f = true
 
 -- after so many devices in all the ID is the next
 abbrev pub is_next : (count : ℕ) → Form → Bool
-is_next count (form.Device id class hw rows offset key descriptor v1 k11 flash) = id == count + 1
+is_next count (form.Device dev) = dev.id == count + 1
 is_next count f = true
 
 -- ---- what refuses it in its own campaign

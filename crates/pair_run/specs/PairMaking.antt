@@ -37,7 +37,7 @@ behind x pair target = one_line_more (after_said (side pair x) (said_to x pair t
 
 -- a device line says to which campaign the next device belongs
 abbrev pub joined : Campaign → Form → List Owner
-joined x (form.Device id class hw rows offset key descriptor v1 k11 flash) = record { campaign = x; number = id } ∷ []
+joined x (form.Device dev) = record { campaign = x; number = dev.id } ∷ []
 joined x f = []
 
 abbrev pub newcomers : Target → List Owner

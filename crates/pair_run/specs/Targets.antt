@@ -62,8 +62,8 @@ named_target owners count x (form.Down number device word) =
     to_owner (λ owner. carried_target x way.Downlink number word owner) (numbered owners device)
 named_target owners count x (form.Air number device word) =
     to_owner (λ owner. carried_target x way.Air number word owner) (numbered owners device)
-named_target owners count x (form.Device id class hw rows offset key descriptor v1 k11 flash) =
-    One x (form.Device (count + 1) class hw rows offset key descriptor v1 k11 flash)
+named_target owners count x (form.Device dev) =
+    One x (form.Device (record dev { id = count + 1 }))
 named_target owners count x f = One x f
 
 -- after so many devices of the one and of the other

@@ -29,7 +29,7 @@ fn plan_may_come(a: Section, b: Section, campaign: Option<Campaign>, form: &Form
     ensures { result ≡ plan_may_come a b campaign form.now }
 {
     match form {
-        Form::Device { .. } => is_in_order(a, form) && is_in_order(b, form),
+        Form::Device(_) => is_in_order(a, form) && is_in_order(b, form),
         _ => match campaign {
             None => is_in_order(a, form) && is_in_order(b, form),
             Some(Campaign::A) => is_in_order(a, form) && is_unplanned(b),
@@ -86,7 +86,7 @@ pub fn is_next(count: usize, form: &Form) -> bool
     ensures { result ≡ is_next count form.now }
 {
     match form {
-        Form::Device { id, .. } => *id == count as u64 + 1,
+        Form::Device(line) => line.id == count as u64 + 1,
         _ => true,
     }
 }

@@ -50,7 +50,7 @@ pub fn take_own(
         (owners.new.items ≡ owners.old.items ++ joined campaign form.now) }
     ensures ends { OnErr result (KeepsEnds own.old own.new × KeepsEnds other.old other.new) }
 {
-    let Form::Device { id, .. } = form else {
+    let Form::Device(line) = form else {
         own.take(form)?;
         other.pass();
         return Ok(());
@@ -60,7 +60,7 @@ pub fn take_own(
     other.pass();
     owners.push_reserved(Owner {
         campaign,
-        number: *id,
+        number: line.id,
     });
     Ok(())
 }

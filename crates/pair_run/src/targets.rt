@@ -111,8 +111,8 @@ fn whose_named(owners: &[Owner], world: &World, campaign: Campaign, form: &mut F
             device,
             word,
         } => carried(owners, campaign, Way::Air, *number, device, *word),
-        Form::Device { id, .. } => {
-            *id = world.count() as u64 + 1;
+        Form::Device(line) => {
+            line.id = world.count() as u64 + 1;
             Whose::One { campaign }
         }
         _ => Whose::One { campaign },

@@ -109,7 +109,18 @@ device_words line k descriptor v1 k11 flash = do
   rows ← decimal_at line (k + 2)
   offset ← decimal_at line (k + 3)
   key ← key_at line (k + 4)
-  Some (Device id class hw rows offset key descriptor v1 k11 flash)
+  Some (Device (record {
+    id = id;
+    class = class;
+    hw = hw;
+    rows = rows;
+    offset = offset;
+    key = key;
+    descriptor = descriptor;
+    v1 = v1;
+    k11 = k11;
+    flash = flash;
+  }))
 
 -- the same in so many words, those before k11
 abbrev pub device_of_words : List ℕ → (k count : ℕ) → (k11 flash : Bool) → Option Form

@@ -4,8 +4,9 @@ use Rattle.script_lines.specs.declared.forms.Class.TheVariants as class
 use Rattle.script_lines.specs.declared.forms.Campaign.{Campaign}
 use Rattle.script_lines.specs.declared.forms.Campaign.TheVariants.{A, B}
 use Rattle.script_lines.specs.declared.forms.Form.{Form}
-use Rattle.script_lines.specs.declared.forms.Form.TheVariants.{Header, Image, Group, WindowC, WindowB, Device, At, Wake, Migrate, Power, Ask, Frag, Status, Down, Air, Up, End}
+use Rattle.script_lines.specs.declared.forms.Form.TheVariants.{Header, Image, Group, WindowC, WindowB, At, Wake, Migrate, Power, Ask, Frag, Status, Down, Air, Up, End}
 use Rattle.script_lines.specs.declared.forms.PairForm.{PairForm}
+use Rattle.script_lines.specs.WorkedLines.{device_says}
 use Rattle.script_lines.specs.PairForms.{pair_form_of}
 
 abbrev pub spells : List ℕ → Option PairForm
@@ -22,11 +23,11 @@ pub record ArePairForms : Type 0 where
   pub window_c : spells (codes "window a c 1000 1 8695250 5") ≡ by (Some A) (WindowC 1000 1 8695250 5)
   pub window_b : spells (codes "window b b 1000 3 1 8695250 5") ≡ by (Some B) (WindowB 1000 3 1 8695250 5)
   pub device : spells (codes "device 1 b a 2 3 4 00000000000000000000000000000000")
-      ≡ by (Some B) (Device 1 class.A 2 3 4 (replicate 16 0) None false false false)
+      ≡ by (Some B) (device_says 1 class.A 2 3 4 (replicate 16 0) None false false false)
   pub device_with_all : spells (codes "device 2 a c 2 3 4 00000000000000000000000000000000 0000000a v1 k11")
-      ≡ by (Some A) (Device 2 class.C 2 3 4 (replicate 16 0) (Some 10) true true false)
+      ≡ by (Some A) (device_says 2 class.C 2 3 4 (replicate 16 0) (Some 10) true true false)
   pub device_with_flash : spells (codes "device 2 a c 2 3 4 00000000000000000000000000000000 v1 k11 flash")
-      ≡ by (Some A) (Device 2 class.C 2 3 4 (replicate 16 0) None true true true)
+      ≡ by (Some A) (device_says 2 class.C 2 3 4 (replicate 16 0) None true true true)
   pub at : spells (codes "at 5") ≡ by None (At 5)
   pub wake : spells (codes "wake 7") ≡ by None (Wake 7)
   pub migrate : spells (codes "migrate 7") ≡ by None (Migrate 7)

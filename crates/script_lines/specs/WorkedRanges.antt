@@ -2,17 +2,18 @@
 use Rattle.std.specs.Prelude.{◌≡◌, ℕ, ◌+◌, ◌-◌, ◌^◌, true, false, [], length, replicate, Some, None}
 use Rattle.script_lines.specs.declared.forms.Class.TheVariants as class
 use Rattle.script_lines.specs.declared.forms.Form.{Form}
-use Rattle.script_lines.specs.declared.forms.Form.TheVariants.{Header, Image, Group, WindowC, WindowB, Device, At, Wake, Migrate, Power, Ask, Frag, Status, Down, Raw, Air, RawAir, Up, End}
+use Rattle.script_lines.specs.declared.forms.Form.TheVariants.{Header, Image, Group, WindowC, WindowB, At, Wake, Migrate, Power, Ask, Frag, Status, Down, Raw, Air, RawAir, Up, End}
 use Rattle.script_lines.specs.Limits.{max_lines, max_flash_devices}
 use Rattle.script_lines.specs.Numbers.{hex_bytes_of}
 use Rattle.script_lines.specs.Pieces.{cut}
 use Rattle.script_lines.specs.Ranges.{in_range}
+use Rattle.script_lines.specs.WorkedLines.{device_says}
 
 abbrev pub group : (min max : ℕ) → Form
 group min max = Group 0 0 (replicate 16 0) min max
 
 abbrev pub device : (id hw rows offset : ℕ) → Form
-device id hw rows offset = Device id class.A hw rows offset (replicate 16 0) None false false false
+device id hw rows offset = device_says id class.A hw rows offset (replicate 16 0) None false false false
 
 pub record AreRanges : Type 0 where
   -- image: FRAGSIZE 1 to 239, PARITY to 512

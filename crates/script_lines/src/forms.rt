@@ -14,6 +14,22 @@ pub enum Class {
     C,
 }
 
+/// What a device line says: OFFSET in seconds; with `v1` the device knows only image format 1, else both. KEY is the GenAppKey of
+/// LoRaWAN 1.0, with `k11` the AppKey of LoRaWAN 1.1. With `flash` its sessions are held in flash.
+#[derive(Clone, Copy, Debug, PartialEq, Eq)]
+pub struct DeviceLine {
+    pub id: u64,
+    pub class: Class,
+    pub hw: u64,
+    pub rows: u64,
+    pub offset: u64,
+    pub key: Key,
+    pub descriptor: Option<u32>,
+    pub v1: bool,
+    pub k11: bool,
+    pub flash: bool,
+}
+
 /// The form of a line of a script. Decimals are as they are written, those above 2^64 - 1 held as that; `in_range` says which
 /// values they may have.
 #[derive(Debug, Drop)]
@@ -51,21 +67,8 @@ pub enum Form<'a> {
         freq: u64,
         dr: u64,
     },
-    /// `device ID CLASS HW ROWS OFFSET KEY [DESCRIPTOR] [v1] [k11] [flash]`: OFFSET in seconds; with `v1` it knows only image
-    /// format 1, else both. KEY is the GenAppKey of LoRaWAN 1.0, with `k11` the AppKey of LoRaWAN 1.1. With `flash` its sessions
-    /// are held in flash.
-    Device {
-        id: u64,
-        class: Class,
-        hw: u64,
-        rows: u64,
-        offset: u64,
-        key: Key,
-        descriptor: Option<u32>,
-        v1: bool,
-        k11: bool,
-        flash: bool,
-    },
+    /// `device ID CLASS HW ROWS OFFSET KEY [DESCRIPTOR] [v1] [k11] [flash]`
+    Device(DeviceLine),
     /// `at MS`: the time now, in milliseconds since the GPS epoch.
     At {
         time: u64,

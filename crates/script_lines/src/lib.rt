@@ -32,7 +32,7 @@ mod ranges;
 mod reading;
 mod words;
 
-pub use forms::{Campaign, Class, Form, Key, PairForm};
+pub use forms::{Campaign, Class, DeviceLine, Form, Key, PairForm};
 pub use hearing::{HearsLine, hear_last, hear_piece};
 pub use hex_bytes::{HexBytes, MAX_HEX_BYTES};
 pub use laws::{worked_lines, worked_pairs, worked_ranges};

@@ -3,7 +3,7 @@
 ghost use Rattle.std.specs.Prelude.{◌≡◌, ◌≤◌, ◌+◌};
 ghost use Rattle.script_lines.specs.Forms.{header_form, image_form, image_words, group_form, group_words, window_from, window_c_words, window_b_words, device_from, device_to, device_of_words, device_words, class_at};
 
-use crate::forms::{Class, Form};
+use crate::forms::{Class, DeviceLine, Form};
 use crate::numbers::{decimal, hex_number, key};
 use crate::words::{count_words, is_word, word};
 
@@ -201,7 +201,7 @@ fn device_words(
     let rows = decimal(word(line, place + 2))?;
     let offset = decimal(word(line, place + 3))?;
     let key = key(word(line, place + 4))?;
-    Some(Form::Device {
+    Some(Form::Device(DeviceLine {
         id,
         class,
         hw,
@@ -212,7 +212,7 @@ fn device_words(
         v1,
         k11,
         flash,
-    })
+    }))
 }
 
 /// The class that a word names.

@@ -53,13 +53,7 @@ pub fn in_range(form: &Form) -> bool
             freq,
             dr,
         } => is_window(start, timeout, freq, dr) && periodicity <= 7,
-        Form::Device {
-            id,
-            hw,
-            rows,
-            offset,
-            ..
-        } => is_device(id, hw, rows, offset),
+        Form::Device(line) => is_device(line.id, line.hw, line.rows, line.offset),
         Form::At { time } => time <= MAX_TIME,
         Form::Down { word, .. } => is_u32(word),
         Form::Raw { port, word, .. } => port <= MAX_PORT && is_u32(word),

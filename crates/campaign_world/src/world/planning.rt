@@ -7,8 +7,8 @@ ghost use Rattle.campaign_server.specs.Server.{first_server};
 ghost use Rattle.campaign_world.specs.HeldLate.{HasSpan};
 ghost use Rattle.campaign_world.specs.World.{first_plan};
 ghost use Rattle.campaign_world.specs.Causes.{is_event_or_end, is_in_order};
-ghost use Rattle.device_core.specs.Device.{is_config};
-ghost use Rattle.campaign_world.specs.Making.{with_plan, with_joined, with_flash, class_of, formats_of, root_of, span_of, after_form};
+ghost use Rattle.device_core.specs.Device.{is_config, max_rows};
+ghost use Rattle.campaign_world.specs.Making.{with_plan, with_joined, with_flash, config_of, class_of, formats_of, root_of, span_of, after_form};
 ghost use Rattle.campaign_world.specs.declared.section.Section.TheVariants as section;
 
 use super::events::Campaign;
@@ -17,7 +17,7 @@ use crate::section::Section;
 use campaign_server::{Kind, Plan, PlanDevice, PlanGroup, PlanWindow, Server, ServerError};
 use device_core::{Class, DeviceConfig, MAX_AREA};
 use mc_keys::RootKind;
-use script_lines::Form;
+use script_lines::{DeviceLine, Form};
 use std::alloc::{AllocError, Global};
 use std::mem::replace;
 
@@ -133,37 +133,9 @@ impl Planning {
                 self.window(window_of(kind, *start, *timeout, *freq, *dr));
                 Ok(())
             }
-            Form::Device {
-                id,
-                class,
-                hw,
-                rows,
-                offset,
-                key,
-                descriptor,
-                v1,
-                k11,
-                flash,
-            } => {
-                let key = *key;
-                self.add_device(
-                    *id,
-                    DeviceConfig {
-                        class: class_of(*class),
-                        hw: *hw as u32,
-                        formats: formats_of(*v1),
-                        rows: *rows as u16,
-                        offset: *offset as u32,
-                        key,
-                        root: root_of(*k11),
-                        descriptor: *descriptor,
-                        sessions: SESSIONS,
-                        groups: GROUPS,
-                        area: MAX_AREA,
-                        held: *flash,
-                        span: span_of(*flash),
-                    },
-                )
+            Form::Device(line) => {
+                let config = config_of(line);
+                self.add_device(line.id, config)
             }
             _ => Ok(()),
         }
@@ -343,6 +315,30 @@ fn add_flash(ids: &mut Vec<u64>, id: u64, flash: bool) -> Result<(), AllocError>
     match ids.push(id) {
         Ok(()) => Ok(()),
         Err(_) => Err(AllocError),
+    }
+}
+
+/// The configuration that a device line says.
+fn config_of(line: &DeviceLine) -> DeviceConfig
+    requires hw { line.now.hw < 2 ^ 32 }
+    requires rows { line.now.rows ≤ max_rows }
+    requires offset { line.now.offset < 2 ^ 32 }
+    ensures { result ≡ config_of line.now }
+{
+    DeviceConfig {
+        class: class_of(line.class),
+        hw: line.hw as u32,
+        formats: formats_of(line.v1),
+        rows: line.rows as u16,
+        offset: line.offset as u32,
+        key: line.key,
+        root: root_of(line.k11),
+        descriptor: line.descriptor,
+        sessions: SESSIONS,
+        groups: GROUPS,
+        area: MAX_AREA,
+        held: line.flash,
+        span: span_of(line.flash),
     }
 }
 

@@ -98,7 +98,7 @@ impl Pair {
         ensures { result ≡ fits_flash (length self.now.a.flash + length self.now.b.flash) form.now }
     {
         match form {
-            Form::Device { .. } => { fits_flash(self.a.flash_count() + self.b.flash_count(), form) }
+            Form::Device(_) => { fits_flash(self.a.flash_count() + self.b.flash_count(), form) }
             _ => true,
         }
     }

@@ -26,25 +26,27 @@ overflow_cast-index c = let cuts = causes.cuts_well c.args.self.now.image.items 
 pub cut-requires-clause-indexed : goal.cut-requires-clause-indexed
 cut-requires-clause-indexed c = let cuts = causes.cuts_well c.args.self.now.image.items (length c.args.self.now.devices.items) c.args.form.now c.in-Image.frag_size c.in-Image.parity c.in-Image.index c.in-Image.is c.requires.tested.ranges c.requires.tested.fits in cuts.3
 
-pub overflow_cast-hw : goal.overflow_cast-hw
-overflow_cast-hw c = let fit = causes.fitting (length c.args.self.now.image.items) (length c.args.self.now.devices.items) c.args.form.now c.in-Device.id c.in-Device.hw c.in-Device.rows c.in-Device.offset c.in-Device.class c.in-Device.key c.in-Device.descriptor c.in-Device.v1 c.in-Device.k11 c.in-Device.flash c.in-Device.is c.requires.tested.ranges c.requires.tested.fits in omega (arith, fit.hw_fits)
+pub config_of-config-requires-clause-hw : goal.config_of-config-requires-clause-hw
+config_of-config-requires-clause-hw c = let fit = causes.fitting (length c.args.self.now.image.items) (length c.args.self.now.devices.items) c.args.form.now c.in-Device.line c.in-Device.is c.requires.tested.ranges c.requires.tested.fits in fit.hw_fits
 
-pub overflow_cast-rows : goal.overflow_cast-rows
-overflow_cast-rows c = let fit = causes.fitting (length c.args.self.now.image.items) (length c.args.self.now.devices.items) c.args.form.now c.in-Device.id c.in-Device.hw c.in-Device.rows c.in-Device.offset c.in-Device.class c.in-Device.key c.in-Device.descriptor c.in-Device.v1 c.in-Device.k11 c.in-Device.flash c.in-Device.is c.requires.tested.ranges c.requires.tested.fits in omega (arith, fit.few)
+pub config_of-config-requires-clause-rows : goal.config_of-config-requires-clause-rows
+config_of-config-requires-clause-rows c = let fit = causes.fitting (length c.args.self.now.image.items) (length c.args.self.now.devices.items) c.args.form.now c.in-Device.line c.in-Device.is c.requires.tested.ranges c.requires.tested.fits in fit.few
 
-pub overflow_cast-offset : goal.overflow_cast-offset
-overflow_cast-offset c = let fit = causes.fitting (length c.args.self.now.image.items) (length c.args.self.now.devices.items) c.args.form.now c.in-Device.id c.in-Device.hw c.in-Device.rows c.in-Device.offset c.in-Device.class c.in-Device.key c.in-Device.descriptor c.in-Device.v1 c.in-Device.k11 c.in-Device.flash c.in-Device.is c.requires.tested.ranges c.requires.tested.fits in omega (arith, fit.offset_fits)
+pub config_of-config-requires-clause-offset : goal.config_of-config-requires-clause-offset
+config_of-config-requires-clause-offset c = let fit = causes.fitting (length c.args.self.now.image.items) (length c.args.self.now.devices.items) c.args.form.now c.in-Device.line c.in-Device.is c.requires.tested.ranges c.requires.tested.fits in fit.offset_fits
 
 pub add_device-requires-clause-fine : goal.add_device-requires-clause-fine
-add_device-requires-clause-fine c = let fit = causes.fitting (length c.args.self.now.image.items) (length c.args.self.now.devices.items) c.args.form.now c.in-Device.id c.in-Device.hw c.in-Device.rows c.in-Device.offset c.in-Device.class c.in-Device.key c.in-Device.descriptor c.in-Device.v1 c.in-Device.k11 c.in-Device.flash c.in-Device.is c.requires.tested.ranges c.requires.tested.fits in rw (le-leb c.in-Device.rows max_rows fit.few, c.formats_of.ensures, causes.known_formats c.in-Device.v1) refl
+add_device-requires-clause-fine c =
+    let fit = causes.fitting (length c.args.self.now.image.items) (length c.args.self.now.devices.items) c.args.form.now c.in-Device.line c.in-Device.is c.requires.tested.ranges c.requires.tested.fits in
+    rw (c.config_of-config.ensures, le-leb c.in-Device.line.rows max_rows fit.few, causes.known_formats c.in-Device.line.v1) refl
 
 pub add_device-requires-clause-span : goal.add_device-requires-clause-span
-add_device-requires-clause-span c = rw (c.span_of.ensures) (causes.spans c.in-Device.flash)
+add_device-requires-clause-span c = rw c.config_of-config.ensures (causes.spans c.in-Device.line.flash)
 
 pub add_device-requires-clause-joins : goal.add_device-requires-clause-joins
 add_device-requires-clause-joins c =
-    let both = causes.joins_at c.args.self.now.image.items c.args.self.now.section c.args.self.now.plan c.args.self.now.devices.items c.args.form.now c.in-Device.id c.in-Device.hw c.in-Device.rows c.in-Device.offset c.in-Device.class c.in-Device.key c.in-Device.descriptor c.in-Device.v1 c.in-Device.k11 c.in-Device.flash c.in-Device.is c.requires.in_order c.requires.planning.planned in
-    let fit = causes.fitting (length c.args.self.now.image.items) (length c.args.self.now.devices.items) c.args.form.now c.in-Device.id c.in-Device.hw c.in-Device.rows c.in-Device.offset c.in-Device.class c.in-Device.key c.in-Device.descriptor c.in-Device.v1 c.in-Device.k11 c.in-Device.flash c.in-Device.is c.requires.tested.ranges c.requires.tested.fits in
+    let both = causes.joins_at c.args.self.now.image.items c.args.self.now.section c.args.self.now.plan c.args.self.now.devices.items c.args.form.now c.in-Device.line c.in-Device.is c.requires.in_order c.requires.planning.planned in
+    let fit = causes.fitting (length c.args.self.now.image.items) (length c.args.self.now.devices.items) c.args.form.now c.in-Device.line c.in-Device.is c.requires.tested.ranges c.requires.tested.fits in
     record { sized = both.0; windowed = both.1; room = fit.next }
 
 pub overflow_cast-min : goal.overflow_cast-min
@@ -106,5 +108,4 @@ returns-in-WindowB-clause-taken c = rw (c.in-WindowB.is, ← c.window_of-in-Wind
 
 pub returns-in-Device-clause-taken : goal.returns-in-Device-clause-taken
 unfolding after_form
-returns-in-Device-clause-taken c =
-    rw (c.in-Device.is, ← c.class_of.ensures, ← c.formats_of.ensures, ← c.root_of.ensures, ← c.span_of.ensures) (c.add_device.ensures.taken c.args.lines)
+returns-in-Device-clause-taken c = rw (c.in-Device.is) (rw (c.config_of-config.ensures) at (c.add_device.ensures.taken c.args.lines))

@@ -1,7 +1,9 @@
 //! Lines of a script, and a stream of them in pieces.
 
 use arrayvec::ArrayVec;
-use script_lines::{Campaign, Class, Cut, Form, HexBytes, Lines, form, in_range, pair_form};
+use script_lines::{
+    Campaign, Class, Cut, DeviceLine, Form, HexBytes, Lines, form, in_range, pair_form,
+};
 use std::alloc::Global;
 use std::process::Abort;
 use std::test::*;
@@ -115,7 +117,7 @@ static HEX_FORMS: [(&str, &str); 3] = [
     ),
     (
         "device 1 a 2 64 5 00000000000000000000000000000000 00000002",
-        "Some(Device { id: 1, class: A, hw: 2, rows: 64, offset: 5, key: [0, 0, 0, 0, 0, 0, 0, 0, 0, 0, 0, 0, 0, 0, 0, 0], descriptor: Some(2), v1: false, k11: false, flash: false })",
+        "Some(Device(DeviceLine { id: 1, class: A, hw: 2, rows: 64, offset: 5, key: [0, 0, 0, 0, 0, 0, 0, 0, 0, 0, 0, 0, 0, 0, 0, 0], descriptor: Some(2), v1: false, k11: false, flash: false }))",
     ),
     (
         "window b 1000 7 15 8695250 255",
@@ -285,30 +287,20 @@ struct Tail<'a> {
 /// Whether the line is device 1 with the key 0 and this after it.
 fn is_device(tail: &Tail) -> bool {
     match form(tail.line.as_bytes()) {
-        Some(
-            Form::Device {
-                id,
-                class,
-                hw,
-                rows,
-                offset,
-                key,
-                descriptor,
-                v1,
-                k11,
-                flash,
-            },
-        ) => {
-            id == 1
-                && class == Class::C
-                && hw == 2
-                && rows == 3
-                && offset == 4
-                && key == [0; 16]
-                && descriptor == tail.descriptor
-                && v1 == tail.v1
-                && k11 == tail.k11
-                && flash == tail.flash
+        Some(Form::Device(line)) => {
+            let told = DeviceLine {
+                id: 1,
+                class: Class::C,
+                hw: 2,
+                rows: 3,
+                offset: 4,
+                key: [0; 16],
+                descriptor: tail.descriptor,
+                v1: tail.v1,
+                k11: tail.k11,
+                flash: tail.flash,
+            };
+            line == told
         }
         _ => false,
     }
