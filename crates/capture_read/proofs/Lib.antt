@@ -1,7 +1,6 @@
-pub mod FloatsRead
 pub mod Json
 pub mod MembersRead
-pub mod NumbersRead
-pub mod PlainLines
+pub mod TokensRead
+pub mod Turns
 pub mod Within
 pub mod WorkedEntries

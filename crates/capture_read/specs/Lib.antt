@@ -1,3 +1,3 @@
 pub mod Entries
-pub mod NumbersRead
+pub mod Members
 pub mod WorkedEntries

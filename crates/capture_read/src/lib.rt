@@ -17,7 +17,6 @@ mod answers;
 mod laws;
 mod members;
 mod numbers;
-mod plain;
 mod reading;
 
 pub use answers::{Entry, EntryError, EntryFault};

@@ -1,86 +1,55 @@
-//! The numbers in a value: which are whole, and whether all are short, and so in the range of floats.
+//! The number that a text of JSON writes.
 
-ghost use Rattle.std.specs.Prelude.{◌≡◌, Bool, Some, IsTrue, IfSome};
-ghost use Rattle.fast_float.specs.Text.{scan};
-ghost use Rattle.json.specs.Value.{value_view, items_view, members_view};
-ghost use Rattle.serde_json.specs.Data.{unsigned};
-ghost use Rattle.serde_json.specs.Read.{number_of};
-ghost use Rattle.capture_read.specs.NumbersRead.{IsRead, IsReadAs, AreRead, ItemsAreRead, MembersAreRead};
+ghost use Rattle.std.specs.Prelude.{◌≡◌, true, false, option_map, slice_index, ◌==◌};
+ghost use Rattle.serde_json.specs.Find.{as_integer};
+ghost use Rattle.serde_json.specs.Read.{number_of, number_from, float_of};
 
 use fast_float::Numeral;
-use json::Value;
 
-/// The most bytes of a short number, without its sign.
-const SHORT: usize = 19;
-
-/// Returns the number that a text writes with only digits, below 2^64.
-pub fn whole(text: &str) -> Option<u64>
-    ensures { IfSome result (λ n. number_of text.now ≡ Some (unsigned n)) }
+/// Returns the number in its text, where it is in range: a whole one, or none for a float.
+pub fn number(text: &str) -> Option<Option<i128>>
+    ensures { result ≡ option_map as_integer (number_of text.now) }
 {
     let bytes = text.as_bytes();
-    if bytes.is_empty() || bytes[0] == b'-' {
-        return None;
-    }
-    Numeral::scan(bytes).to_u64()
-}
-
-/// Whether a number's text, after its sign, has at most 19 bytes and no exponent.
-fn is_short(text: &str) -> bool
-    ensures { IsTrue result → IsRead text.now }
-{
-    let bytes = text.as_bytes();
-    if bytes.is_empty() {
-        return false;
-    }
-    if bytes[0] == b'-' {
-        return is_short_unsigned(&bytes[1..]);
-    }
-    is_short_unsigned(bytes)
-}
-
-fn is_short_unsigned(bytes: &[u8]) -> bool
-    ensures { IsTrue result → (negative : Bool) → IsReadAs negative (scan bytes.now) }
-{
-    let numeral = Numeral::scan(bytes);
-    if numeral.len() > SHORT {
-        return false;
-    }
-    numeral.exponent().is_empty()
-}
-
-/// Says whether each number in a value is short.
-#[cycle(numbers)]
-pub fn are_short(value: &Value<'_>) -> bool
-    ensures { IsTrue result → AreRead (value_view value.now) }
-{
-    match value {
-        Value::Number(text) => is_short(text),
-        Value::Array(items) => items_are_short(items),
-        Value::Object(members) => members_are_short(members),
-        _ => true,
+    if has_minus(bytes) {
+        negative(&Numeral::scan(&bytes[1..]))
+    } else {
+        unsigned(&Numeral::scan(bytes))
     }
 }
 
-#[cycle(numbers)]
-fn items_are_short(items: &Vec<Value<'_>>) -> bool
-    ensures { IsTrue result → ItemsAreRead (items_view items.now.items) }
+fn has_minus(bytes: &[u8]) -> bool
+    ensures { result ≡ (slice_index bytes.now 0 == 45) }
 {
-    for item in items {
-        if !are_short(item) {
-            return false;
+    !bytes.is_empty() && bytes[0] == b'-'
+}
+
+fn unsigned(numeral: &Numeral<'_>) -> Option<Option<i128>>
+    ensures { result ≡ option_map as_integer (number_from false numeral.now) }
+{
+    match numeral.to_u64() {
+        Some(n) => Some(Some(i128::from(n))),
+        None => float(false, numeral),
+    }
+}
+
+fn negative(numeral: &Numeral<'_>) -> Option<Option<i128>>
+    ensures { result ≡ option_map as_integer (number_from true numeral.now) }
+{
+    if let Some(n) = numeral.to_i64(true) {
+        if n < 0 {
+            return Some(Some(i128::from(n)));
         }
     }
-    true
+    float(true, numeral)
 }
 
-#[cycle(numbers)]
-fn members_are_short(members: &Vec<(&str, Value<'_>)>) -> bool
-    ensures { IsTrue result → MembersAreRead (members_view members.now.items) }
+fn float(negative: bool, numeral: &Numeral<'_>) -> Option<Option<i128>>
+    ensures { result ≡ option_map as_integer (float_of negative numeral.now) }
 {
-    for member in members {
-        if !are_short(&member.1) {
-            return false;
-        }
+    if numeral.to_float::<f64>(negative).is_finite() {
+        Some(None)
+    } else {
+        None
     }
-    true
 }

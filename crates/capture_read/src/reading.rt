@@ -1,17 +1,20 @@
 //! Reading of one line.
 
-ghost use Rattle.std.specs.Prelude.{◌≡◌, List, ℕ, Option, Some, Ok, IfOk, IfErr};
-ghost use Rattle.serde_json.specs.View.{view};
-ghost use Rattle.capture_read.specs.Entries.{ranged, entry_in, entry_of, Answers};
+ghost use Rattle.std.specs.Prelude.{◌≡◌, Some, Err, option_map, option_and_then, MatchResult};
+ghost use Rattle.serde_json.specs.Data.{Members, object};
+ghost use Rattle.capture_read.specs.declared.answers.EntryFault.TheVariants.{Syntax};
+ghost use Rattle.capture_read.specs.Entries.{direction_of, ranged, entry_in, entry_of, Answers};
+ghost use Rattle.capture_read.specs.Members.{value_of, IsSaid};
 
 use crate::answers::{Entry, EntryError, EntryFault};
-use crate::members::{dir_of, port_of};
-use crate::plain::plain_entry;
+use crate::members::{Said, members};
 use hex::FromHexError;
-use json::Scratch;
-use serde_json::Value;
+use json::{Invalid, Reader, Scratch, Token};
 use std::alloc::Global;
 use wire_base::{Direction, MAX_PAYLOAD, Payload};
+
+/// How deep a line may nest.
+const MAX_DEPTH: usize = 127;
 
 /// Reads the entry of a line.
 pub fn entry(alloc: Global, line: &[u8]) -> Result<Entry, EntryError>
@@ -25,44 +28,47 @@ pub fn entry(alloc: Global, line: &[u8]) -> Result<Entry, EntryError>
 pub fn entry_with(alloc: Global, scratch: &mut Scratch, line: &[u8]) -> Result<Entry, EntryError>
     ensures { Answers (entry_of line.now) result }
 {
-    match plain_entry(alloc, scratch, line) {
-        Some(entry) => Ok(entry),
-        None => any_entry(alloc, line),
+    let Ok(text) = str::from_utf8(line) else {
+        return Err(EntryError::Refused(EntryFault::Syntax));
+    };
+    let Ok(mut reader) = Reader::new(text, scratch) else {
+        return Err(EntryError::Memory);
+    };
+    match object(&mut reader) {
+        Ok(said) => entry_in(alloc, &said),
+        Err(Invalid) => Err(EntryError::Refused(EntryFault::Syntax)),
     }
 }
 
-/// The same for any line, as `serde_json` reads it.
-#[tactic(auto, unfolding(crate::specs::Entries::entry_of, crate::specs::Entries::json_of))]
-fn any_entry(alloc: Global, line: &[u8]) -> Result<Entry, EntryError>
-    ensures { Answers (entry_of line.now) result }
+/// What the members of an object say, where the tokens are an object and nothing more.
+fn object<'a>(reader: &mut Reader<'a>) -> Result<Said<'a>, Invalid>
+    ensures { MatchResult result
+        (λ said. (ms : Members) × (value_of reader.old ≡ Some (object ms)) × IsSaid said ms)
+        (λ _. entry_in (value_of reader.old) ≡ Err Syntax) }
 {
-    match Value::from_slice(alloc, line) {
-        Ok(value) => entry_in(alloc, &value),
-        Err(error) => {
-            if error.is_memory() {
-                Err(EntryError::Memory)
-            } else {
-                Err(EntryError::Refused(EntryFault::Syntax))
-            }
-        }
+    let first = reader.next().ok_or(Invalid)?;
+    let Token::BeginObject = first else {
+        return Err(Invalid);
+    };
+    let said = members(reader, MAX_DEPTH - 1)?;
+    match reader.next() {
+        None => Ok(said),
+        Some(_) => Err(Invalid),
     }
 }
 
-/// The entry that a JSON value is.
-#[tactic(auto, unfolding(crate::specs::Entries::hex_of))]
-fn entry_in(alloc: Global, value: &Value) -> Result<Entry, EntryError>
-    ensures { Answers (entry_in (Some (view value.now))) result }
+/// The entry that an object is whose members say this.
+#[tactic(auto, unfolding(crate::specs::Entries::port_of, crate::specs::Entries::dir_of, crate::specs::Entries::hex_of))]
+fn entry_in(alloc: Global, said: &Said<'_>) -> Result<Entry, EntryError>
+    ensures { (ms : Members) → IsSaid said.now ms → Answers (entry_in (Some (object ms))) result }
 {
-    let Some(port) = port_of(value) else {
+    let Some(port) = said.port else {
         return Err(EntryError::Refused(EntryFault::Syntax));
     };
-    let Some(dir) = dir_of(value) else {
+    let Some(dir) = direction(said.dir) else {
         return Err(EntryError::Refused(EntryFault::Syntax));
     };
-    let Some(member) = value.get("hex") else {
-        return Err(EntryError::Refused(EntryFault::Syntax));
-    };
-    let Some(digits) = member.as_str() else {
+    let Some(digits) = said.hex else {
         return Err(EntryError::Refused(EntryFault::Syntax));
     };
     match hex::decode(alloc, digits) {
@@ -75,8 +81,19 @@ fn entry_in(alloc: Global, value: &Value) -> Result<Entry, EntryError>
     }
 }
 
+/// The direction that a word names, where there is one.
+fn direction(word: Option<&str>) -> Option<Direction>
+    ensures { result ≡ option_and_then direction_of (option_map (λ text. text.now) word.entry) }
+{
+    match word {
+        Some("down") => Some(Direction::Down),
+        Some("up") => Some(Direction::Up),
+        _ => None,
+    }
+}
+
 /// Makes the entry, where its members are as they must be.
-pub fn ranged(port: i128, dir: Direction, payload: &[u8]) -> Result<Entry, EntryFault>
+fn ranged(port: i128, dir: Direction, payload: &[u8]) -> Result<Entry, EntryFault>
     ensures { result ≡ ranged port dir payload.now }
 {
     if port < 0 || port > 255 {
