@@ -31,6 +31,7 @@ static int without_objects(void) {
     uint32_t version = 9;
     uint8_t bytes[8] = {0xEE};
     SO(fuota_version() == FUOTA_VERSION_MAJOR * 65536 + FUOTA_VERSION_MINOR * 256 + FUOTA_VERSION_PATCH);
+    SO(fuota_pointer_bits() == 8 * sizeof(void *));
     SO(fuota_receiver_set_up(&receiver, &setup) == FUOTA_NO_RECEIVER);
     SO(fuota_receiver_hear(&receiver, zeros, 5, 1) == FUOTA_NO_OBJECT);
     SO(fuota_receiver_view(&receiver, &view) == FUOTA_NO_OBJECT && view.mark == 9);
@@ -71,7 +72,7 @@ static int receiver_answers(void) {
     fuota_view view = {0};
     uint8_t bytes[8];
     int i;
-    SO(fuota_receiver_new(&receiver, FUOTA_SIZE_SMALL) == FUOTA_DONE && receiver.at != NULL);
+    SO(fuota_receiver_new(&receiver, FUOTA_SIZE_SMALL) == FUOTA_DONE && receiver.at != 0);
     SO(fuota_receiver_view(&receiver, &view) == FUOTA_NOTHING);
     other.index = 1;
     SO(fuota_receiver_set_up(&receiver, &other) == 4);
@@ -98,13 +99,13 @@ static int receiver_answers(void) {
     memset(bytes, 0xEE, sizeof bytes);
     SO(fuota_receiver_file(&receiver, 0, bytes, 8) == 5 && !memcmp(bytes, FILE_BYTES, 5) && bytes[5] == 0xEE);
     SO(fuota_receiver_file(&receiver, 3, bytes, 1) == 1 && bytes[0] == 0x44 && bytes[1] == 0x22);
-    SO(fuota_receiver_file(&receiver, (size_t)-1, bytes, 8) == 0);
+    SO(fuota_receiver_file(&receiver, (fuota_length)-1, bytes, 8) == 0);
     SO(fuota_receiver_file(&receiver, 0, NULL, 0) == 0 && fuota_receiver_status(&receiver, true, NULL, 0) == 0);
     SO(fuota_receiver_hear(&receiver, NULL, 0, 4) == FUOTA_DONE);
     SO(fuota_receiver_new(&receiver, 0) == FUOTA_DONE); /* frees the first */
     SO(fuota_receiver_view(&receiver, &view) == FUOTA_NOTHING && view.file_length == 5);
     fuota_receiver_free(&receiver);
-    SO(receiver.at == NULL);
+    SO(receiver.at == 0);
     fuota_receiver_free(&receiver);
     return 0;
 }
@@ -125,7 +126,7 @@ static int receiver_sizes(void) {
         setup.frag_size = 1;
         SO(fuota_receiver_set_up(&receiver, &setup) == 2);
     }
-    SO(fuota_receiver_new(&receiver, 3) == FUOTA_RANGE && receiver.at == NULL);
+    SO(fuota_receiver_new(&receiver, 3) == FUOTA_RANGE && receiver.at == 0);
     return 0;
 }
 
@@ -146,9 +147,10 @@ static int device_answers(void) {
     uint8_t bytes[8];
     int i;
     config.sessions = 5;
-    SO(fuota_device_new(&device, &config) == FUOTA_RANGE && device.at == NULL);
+    SO(fuota_device_new(&device, FUOTA_SIZE_LARGE, &config) == FUOTA_RANGE && device.at == 0);
     config.sessions = 1;
-    SO(fuota_device_new(&device, &config) == FUOTA_DONE && device.at != NULL);
+    SO(fuota_device_new(&device, 3, &config) == FUOTA_RANGE && device.at == 0);
+    SO(fuota_device_new(&device, FUOTA_SIZE_LARGE, &config) == FUOTA_DONE && device.at != 0);
     SO(fuota_device_take_uplink(&device, &up) == FUOTA_NOTHING && up.port == 1);
     SO(fuota_device_radio(&device, zeros, 300, 1000, 1, 1) == FUOTA_FOREIGN);
     SO(fuota_device_radio(&device, zeros, 20, UINT64_C(4294967296000), 1, 1) == FUOTA_RANGE);
@@ -181,7 +183,33 @@ static int device_answers(void) {
     SO(fuota_device_deliver(&device, 201, setup, sizeof setup, &arrival) == FUOTA_FULL);
     SO(fuota_device_running(&device, &version) == FUOTA_DONE && version == 0);
     fuota_device_free(&device);
-    SO(device.at == NULL);
+    SO(device.at == 0);
+    return 0;
+}
+
+/* The refusal bits of a setup of so many pieces of so many bytes, at a new device of a size whose area has room for all. */
+static int setup_bits(uint8_t size, uint16_t rows, uint16_t pieces, uint8_t bytes) {
+    const uint8_t setup[11] = {0x02, 0x00, (uint8_t)pieces, (uint8_t)(pieces >> 8), bytes, 0x00, 0x00, 0, 0, 0, 0};
+    fuota_device device = FUOTA_DEVICE_NONE;
+    fuota_config config = {.area = 262144, .rows = rows, .formats = 2, .sessions = 1, .groups = 1, .is_class_c = true};
+    fuota_arrival arrival = {.t = 1000};
+    fuota_uplink up = {0};
+    int bits = -1;
+    if (fuota_device_new(&device, size, &config) == FUOTA_DONE &&
+        fuota_device_deliver(&device, 201, setup, sizeof setup, &arrival) == FUOTA_DONE &&
+        fuota_device_take_uplink(&device, &up) == FUOTA_DONE && up.length == 2)
+        bits = up.payload[1] & 0x0f;
+    fuota_device_free(&device);
+    return bits;
+}
+
+/* Each size takes files of its pieces, bytes and rows, and refuses a piece, a byte or a row more. */
+static int device_sizes(void) {
+    SO(setup_bits(FUOTA_SIZE_SMALL, 16, 256, 48) == 0 && setup_bits(FUOTA_SIZE_SMALL, 16, 257, 48) == 2);
+    SO(setup_bits(FUOTA_SIZE_SMALL, 16, 256, 49) == 2 && setup_bits(FUOTA_SIZE_SMALL, 17, 256, 48) == 2);
+    SO(setup_bits(FUOTA_SIZE_MIDDLE, 64, 1024, 48) == 0 && setup_bits(FUOTA_SIZE_MIDDLE, 64, 1025, 48) == 2);
+    SO(setup_bits(FUOTA_SIZE_MIDDLE, 64, 1024, 49) == 2 && setup_bits(FUOTA_SIZE_MIDDLE, 65, 1024, 48) == 2);
+    SO(setup_bits(FUOTA_SIZE_LARGE, 256, 4096, 64) == 0 && setup_bits(FUOTA_SIZE_LARGE, 256, 1096, 239) == 0);
     return 0;
 }
 
@@ -204,7 +232,7 @@ static int device_outlasts(void) {
     memset(saved, 0xEE, sizeof saved);
     SO(fuota_device_save(&device, saved, sizeof saved) == 0 && saved[0] == 0xEE);
     SO(fuota_device_firmware(&device, true, 0, next, 8) == 0);
-    SO(fuota_device_new(&device, &config) == FUOTA_DONE);
+    SO(fuota_device_new(&device, FUOTA_SIZE_LARGE, &config) == FUOTA_DONE);
     SO(fuota_device_deliver(&device, 201, setup, sizeof setup, &arrival) == FUOTA_DONE);
     for (i = 0; i < 3; i++)
         SO(fuota_device_deliver(&device, 201, rows[i], 5, &arrival) == FUOTA_DONE);
@@ -214,25 +242,25 @@ static int device_outlasts(void) {
     SO(fuota_device_save(&device, saved, sizeof saved - 1) == 0 && saved[0] == 0xEE);
     SO(fuota_device_save(&device, saved, sizeof saved) == sizeof saved);
     SO(!memcmp(saved, "FUSD\1\4\3\2\1\0", 10) && saved[10] == 1 && saved[186] == 1 && saved[203] == 1);
-    SO(fuota_device_restore(&device, &config, saved, sizeof saved, NULL, 0, next, 5) == FUOTA_DONE);
+    SO(fuota_device_restore(&device, FUOTA_SIZE_LARGE, &config, saved, sizeof saved, NULL, 0, next, 5) == FUOTA_DONE);
     SO(fuota_device_view(&device, 0, &view) == FUOTA_NOTHING);
     SO(fuota_device_firmware(&device, true, 0, next, 8) == 5 && !memcmp(next, FILE_BYTES, 5));
     SO(fuota_device_take_uplink(&device, &up) == FUOTA_DONE && up.due == 1000 && up.port == 201 && up.length == 2);
     SO(fuota_device_take_uplink(&device, &up) == FUOTA_NOTHING);
     for (k = 0; k < sizeof saved; k++) {
         saved[k] ^= 1;
-        SO(fuota_device_restore(&device, &config, saved, sizeof saved, none, 0, next, 5) == FUOTA_CORRUPT);
+        SO(fuota_device_restore(&device, FUOTA_SIZE_LARGE, &config, saved, sizeof saved, none, 0, next, 5) == FUOTA_CORRUPT);
         saved[k] ^= 1;
-        SO(fuota_device_restore(&device, &config, saved, k, none, 0, next, 5) == FUOTA_CORRUPT);
-        SO(device.at == NULL);
+        SO(fuota_device_restore(&device, FUOTA_SIZE_LARGE, &config, saved, k, none, 0, next, 5) == FUOTA_CORRUPT);
+        SO(device.at == 0);
     }
-    SO(fuota_device_restore(&device, &config, saved, sizeof saved, none, 0, next, 4) == FUOTA_CORRUPT);
-    SO(fuota_device_restore(&device, &config, saved, sizeof saved, none, 1, next, 5) == FUOTA_CORRUPT);
+    SO(fuota_device_restore(&device, FUOTA_SIZE_LARGE, &config, saved, sizeof saved, none, 0, next, 4) == FUOTA_CORRUPT);
+    SO(fuota_device_restore(&device, FUOTA_SIZE_LARGE, &config, saved, sizeof saved, none, 1, next, 5) == FUOTA_CORRUPT);
     config.hw = 2;
-    SO(fuota_device_restore(&device, &config, saved, sizeof saved, none, 0, next, 5) == FUOTA_CORRUPT);
+    SO(fuota_device_restore(&device, FUOTA_SIZE_LARGE, &config, saved, sizeof saved, none, 0, next, 5) == FUOTA_CORRUPT);
     config.sessions = 5;
-    SO(fuota_device_restore(&device, &config, saved, sizeof saved, none, 0, next, 5) == FUOTA_RANGE);
-    SO(device.at == NULL);
+    SO(fuota_device_restore(&device, FUOTA_SIZE_LARGE, &config, saved, sizeof saved, none, 0, next, 5) == FUOTA_RANGE);
+    SO(device.at == 0);
     return 0;
 }
 
@@ -252,12 +280,12 @@ static int device_in_flash(void) {
     uint8_t saved[FUOTA_SAVED_DEVICE], bytes[8];
     int i;
     SO(fuota_device_power(&device) == FUOTA_NO_OBJECT && fuota_device_flash(&device, 0, flash, FLASH) == 0);
-    SO(fuota_device_new(&device, &config) == FUOTA_DONE && fuota_device_power(&device) == FUOTA_NOTHING);
+    SO(fuota_device_new(&device, FUOTA_SIZE_LARGE, &config) == FUOTA_DONE && fuota_device_power(&device) == FUOTA_NOTHING);
     SO(fuota_device_flash(&device, 0, flash, FLASH) == 0);
-    SO(fuota_device_new_in_flash(&device, &config, SPAN, flash, FLASH - 1) == FUOTA_RANGE && device.at == NULL);
-    SO(fuota_device_new_in_flash(&device, &config, 24639, flash, FLASH) == FUOTA_RANGE);
-    SO(fuota_device_new_in_flash(&device, &config, SPAN, NULL, 0) == FUOTA_RANGE);
-    SO(fuota_device_new_in_flash(&device, &config, SPAN, flash, FLASH) == FUOTA_DONE);
+    SO(fuota_device_new_in_flash(&device, FUOTA_SIZE_LARGE, &config, SPAN, flash, FLASH - 1) == FUOTA_RANGE && device.at == 0);
+    SO(fuota_device_new_in_flash(&device, FUOTA_SIZE_LARGE, &config, 24639, flash, FLASH) == FUOTA_RANGE);
+    SO(fuota_device_new_in_flash(&device, FUOTA_SIZE_LARGE, &config, SPAN, NULL, 0) == FUOTA_RANGE);
+    SO(fuota_device_new_in_flash(&device, FUOTA_SIZE_LARGE, &config, SPAN, flash, FLASH) == FUOTA_DONE);
     SO(fuota_device_deliver(&device, 201, setup, sizeof setup, &arrival) == FUOTA_DOWN);
     SO(fuota_device_radio(&device, zeros, 20, 1000, 1, 1) == FUOTA_DOWN);
     SO(fuota_device_power(&device) == FUOTA_DONE);
@@ -268,8 +296,8 @@ static int device_in_flash(void) {
         SO(fuota_device_save(&device, saved, sizeof saved) == sizeof saved);
         SO(fuota_device_flash(&device, 0, flash, FLASH) == FLASH);
         SO(fuota_device_firmware(&device, true, 0, bytes, 8) == (i == 2 ? 5 : 0));
-        SO(fuota_device_restore_in_flash(&device, &config, SPAN, flash, FLASH, saved, sizeof saved, NULL, 0, bytes,
-                                         i == 2 ? 5 : 0) == FUOTA_DONE);
+        SO(fuota_device_restore_in_flash(&device, FUOTA_SIZE_LARGE, &config, SPAN, flash, FLASH, saved, sizeof saved, NULL,
+                                         0, bytes, i == 2 ? 5 : 0) == FUOTA_DONE);
         SO(fuota_device_view(&device, 0, &view) == FUOTA_NOTHING);
         SO(fuota_device_power(&device) == FUOTA_DONE && fuota_device_power(&device) == FUOTA_DONE);
         SO(fuota_device_view(&device, 0, &view) == FUOTA_DONE && view.received == i + 1 && view.missing == 2 - i);
@@ -278,9 +306,9 @@ static int device_in_flash(void) {
     SO(fuota_device_file(&device, 0, 0, bytes, 8) == 5 && !memcmp(bytes, FILE_BYTES, 5));
     SO(fuota_device_flash(&device, FLASH - 2, bytes, 8) == 2 && fuota_device_flash(&device, FLASH, bytes, 8) == 0);
     flash[65] = 0; /* a closed gate before an open one */
-    SO(fuota_device_restore_in_flash(&device, &config, SPAN, flash, FLASH, saved, sizeof saved, NULL, 0, bytes, 4) ==
-       FUOTA_CORRUPT);
-    SO(fuota_device_new_in_flash(&device, &config, SPAN, flash, FLASH) == FUOTA_DONE);
+    SO(fuota_device_restore_in_flash(&device, FUOTA_SIZE_LARGE, &config, SPAN, flash, FLASH, saved, sizeof saved, NULL, 0, bytes,
+                                     4) == FUOTA_CORRUPT);
+    SO(fuota_device_new_in_flash(&device, FUOTA_SIZE_LARGE, &config, SPAN, flash, FLASH) == FUOTA_DONE);
     SO(fuota_device_power(&device) == FUOTA_FLASH);
     SO(fuota_device_deliver(&device, 201, setup, sizeof setup, &arrival) == FUOTA_DOWN);
     fuota_device_free(&device);
@@ -316,8 +344,8 @@ static int server_answers(const uint8_t *image, size_t length) {
     plan.has_window = true;
     SO(fuota_server_new(&server, &plan, devices, 0, image, length, &field) == FUOTA_RANGE);
     SO(field == FUOTA_FIELD_DEVICES);
-    SO(server.at == NULL);
-    SO(fuota_server_new(&server, &plan, devices, 2, image, length, &field) == FUOTA_DONE && server.at != NULL);
+    SO(server.at == 0);
+    SO(fuota_server_new(&server, &plan, devices, 2, image, length, &field) == FUOTA_DONE && server.at != 0);
     SO(fuota_server_ask(&server, 0, &down) == FUOTA_RANGE && fuota_server_ask(&server, 3, &down) == FUOTA_RANGE);
     SO(fuota_server_ask(&server, 2, &down) == FUOTA_DONE);
     SO(!down.is_group && down.addr == 9 && down.port == 203 && down.length == 1 && down.payload[0] == 0x01);
@@ -352,7 +380,7 @@ static int server_answers(const uint8_t *image, size_t length) {
         SO(!down.is_group && fuota_server_frame(&server, &down, frame, sizeof frame) == 0);
     SO(i == 5 && fuota_server_next_fragment(&server, &down) == FUOTA_NOTHING);
     fuota_server_free(&server);
-    SO(server.at == NULL);
+    SO(server.at == 0);
     return 0;
 }
 
@@ -392,14 +420,14 @@ static int server_outlasts(const uint8_t *image, size_t length) {
         SO(fuota_server_restore(&server, &plan, devices, 1, image, length, saved, count, &field) == FUOTA_CORRUPT);
         saved[k] ^= 1;
         SO(fuota_server_restore(&server, &plan, devices, 1, image, length, saved, k, &field) == FUOTA_CORRUPT);
-        SO(server.at == NULL);
+        SO(server.at == 0);
     }
     SO(fuota_server_restore(&server, &plan, devices, 2, image, length, saved, count, &field) == FUOTA_CORRUPT);
     SO(fuota_server_restore(&server, &plan, devices, 1, image, length - 1, saved, count, &field) == FUOTA_REFUSED);
     SO(field == 7);
     plan.parity = 513;
     SO(fuota_server_restore(&server, &plan, devices, 1, image, length, saved, count, &field) == FUOTA_RANGE);
-    SO(field == FUOTA_FIELD_PARITY && server.at == NULL);
+    SO(field == FUOTA_FIELD_PARITY && server.at == 0);
     return 0;
 }
 
@@ -431,6 +459,7 @@ int main(int argc, char **argv) {
         fclose(file);
     if (length != 52)
         return 2;
-    return without_objects() || receiver_answers() || receiver_sizes() || device_answers() || device_outlasts()
-        || device_in_flash() || server_answers(image, length) || server_outlasts(image, length) || decode_answers();
+    return without_objects() || receiver_answers() || receiver_sizes() || device_answers() || device_sizes()
+        || device_outlasts() || device_in_flash() || server_answers(image, length) || server_outlasts(image, length)
+        || decode_answers();
 }

@@ -40,7 +40,7 @@ int main(int argc, char **argv) {
     if (source)
         fclose(source);
     if (fuota_server_new(&server, &plan, devices, 1, image, length, &field) != FUOTA_DONE ||
-        fuota_device_new(&device, &config) != FUOTA_DONE)
+        fuota_device_new(&device, FUOTA_SIZE_LARGE, &config) != FUOTA_DONE)
         return 1;
     while (fuota_server_ledger(&server, 1, &stage) == FUOTA_DONE && stage.stage == FUOTA_AT && t < 100000) {
         t += 1000;

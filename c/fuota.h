@@ -2,9 +2,10 @@
  * whole device, the server of a campaign, and payloads as text. docs/SAMPLES.md says how to build and link it.
  *
  * Each call is proved: with any argument that its types allow it does what crates/fuota_c/README.md and
- * crates/fuota_server_c/README.md say, nothing undefined, and returns.
- * Memory is taken by the calls _new and _restore alone, and given
- * back by _free, and by _new and _restore of what was there; fuota_decode takes memory for its text and gives it back.
+ * crates/fuota_server_c/README.md say, nothing undefined, and returns. For processors of 32 bits the proved code is
+ * translated, which nothing proves: docs/NARROW.md says how, and why it means the same.
+ * Memory is taken by the calls _new and _restore alone, and given back by _free, and by _new and _restore of what was
+ * there; fuota_decode takes memory for its text and gives it back.
  * What C owes is written here, and nothing checks it:
  *   - a handle begins as { 0 }, as by its ..._NONE. It is not copied, and what is in it is neither read nor written by
  *     C;
@@ -17,7 +18,8 @@
  *   - malloc, realloc and free come from one allocator, and align a block to each power of two up to 16 that divides
  *     its size;
  *   - no call comes from a signal handler, or from the forked child of a process with threads;
- *   - there is stack for the call: docs/SAMPLES.md says how much.
+ *   - there is stack for the call: docs/SAMPLES.md says how much. fuota_device_restore takes the most, 10 KB, for which a
+ *     thread of Linux wants 16 KB.
  * Numbers in structs are in the byte order of the machine; payloads, keys and saved bytes are bytes in their order.
  */
 #ifndef FUOTA_H
@@ -38,6 +40,16 @@ extern "C" {
 
 /* That of the library: MAJOR * 65536 + MINOR * 256 + PATCH. */
 uint32_t fuota_version(void);
+
+/* A number of bytes. It has 64 bits on each processor, as the proved code counts, and so has a handle; so this header is the
+ * same for processors of 32 bits. A program there widens what it hands in as C does by itself, and prints what it gets as
+ * PRIu64, or as an unsigned after a cast. No area has 2^31 bytes or more there: such a length is never handed in (an offset
+ * may be any number), and where the library itself would need such a block, it answers FUOTA_NO_MEMORY. */
+typedef uint64_t fuota_length;
+
+/* The bits of a pointer on the processor for which the library was built: 64, or 32. This call alone is not of the proved
+ * code, which does not know. */
+uint32_t fuota_pointer_bits(void);
 
 /* What a call answers, where it says nothing else. After each answer but FUOTA_DONE what C handed in to be written to
  * is as it was, unless the call says otherwise. */
@@ -72,27 +84,27 @@ enum fuota_verdict {
 };
 
 typedef struct fuota_view {
-    uint64_t mark;      /* of the fragment that decided the session; 0 while it receives */
-    size_t file_length; /* bytes of the whole file; 0 where none is whole */
-    uint16_t received;  /* fragments heard, repeats included, at most 16,383 */
-    uint16_t missing;   /* pieces still to be gained */
-    uint8_t verdict;    /* a value of enum fuota_verdict */
+    uint64_t mark;            /* of the fragment that decided the session; 0 while it receives */
+    fuota_length file_length; /* bytes of the whole file; 0 where none is whole */
+    uint16_t received;        /* fragments heard, repeats included, at most 16,383 */
+    uint16_t missing;         /* pieces still to be gained */
+    uint8_t verdict;          /* a value of enum fuota_verdict */
 } fuota_view;
 
 /* ---- A receiver of one file at a time (TS004), with session 0 alone ---- */
 
 typedef struct fuota_receiver {
-    void *at;
+    uint64_t at;
 } fuota_receiver;
 
 #define FUOTA_RECEIVER_NONE { 0 }
 
-/* What it has room for: pieces, bytes of a piece, and rows, so many lost pieces as coded fragments can make good.
- * docs/SAMPLES.md says what memory each takes. */
+/* What a receiver has room for, and each session of a device: pieces, bytes of a piece, and rows, so many lost pieces as
+ * coded fragments can make good. docs/SAMPLES.md says what memory each takes. */
 enum fuota_size {
     FUOTA_SIZE_SMALL = 0,  /* 256 of 48 bytes, 16 rows */
     FUOTA_SIZE_MIDDLE = 1, /* 1,024 of 48 bytes, 64 rows */
-    FUOTA_SIZE_LARGE = 2   /* 4,096 of 64 bytes, 256 rows */
+    FUOTA_SIZE_LARGE = 2   /* 4,096, of 64 bytes in a receiver, of up to 239 in a device, 256 rows */
 };
 
 /* What fuota_receiver_set_up answers where the handle has no receiver. */
@@ -124,23 +136,23 @@ uint8_t fuota_receiver_set_up(fuota_receiver *handle, const fuota_setup *setup);
 
 /* A payload of port 201 that came by unicast: a DataFragment of session 0 is heard, and anything else passed over;
  * `mark` is the caller's own. FUOTA_DONE; FUOTA_RANGE at more than 242 bytes; FUOTA_NO_OBJECT. */
-fuota_result fuota_receiver_hear(fuota_receiver *handle, const uint8_t *payload, size_t length, uint64_t mark);
+fuota_result fuota_receiver_hear(fuota_receiver *handle, const uint8_t *payload, fuota_length length, uint64_t mark);
 
 /* What the session shows: FUOTA_DONE; FUOTA_NOTHING without a session; FUOTA_NO_OBJECT. */
 fuota_result fuota_receiver_view(fuota_receiver *handle, fuota_view *out);
 
 /* Copies bytes of the whole file, from the offset on, as many as there are and have room; their count, 0 also
  * without a receiver. */
-size_t fuota_receiver_file(fuota_receiver *handle, size_t offset, uint8_t *into, size_t room);
+fuota_length fuota_receiver_file(fuota_receiver *handle, fuota_length offset, uint8_t *into, fuota_length room);
 
 /* FragSessionStatusAns, as the 5 bytes to send, at the front of `answer`; their count, and 0 where none is to be
  * sent, where they have no room, or without a receiver. `all` is the request's Participants bit. */
-size_t fuota_receiver_status(fuota_receiver *handle, bool all, uint8_t *answer, size_t room);
+fuota_length fuota_receiver_status(fuota_receiver *handle, bool all, uint8_t *answer, fuota_length room);
 
 /* ---- A device of all four packages ---- */
 
 typedef struct fuota_device {
-    void *at;
+    uint64_t at;
 } fuota_device;
 
 #define FUOTA_DEVICE_NONE { 0 }
@@ -172,14 +184,16 @@ typedef struct fuota_arrival {
 
 typedef struct fuota_uplink {
     uint64_t due;         /* ms of true time */
-    size_t length;        /* bytes of payload */
+    fuota_length length;  /* bytes of payload */
     uint8_t port;
     uint8_t payload[242]; /* in the order in which they are sent; the bytes after `length` are as they were */
 } fuota_uplink;
 
 /* Frees what was there, and puts a new device into the handle, with all memory that it will ever need: FUOTA_DONE;
- * FUOTA_RANGE where a number of the configuration is out of range, or FUOTA_NO_MEMORY, and then there is no device. */
-fuota_result fuota_device_new(fuota_device *handle, const fuota_config *config);
+ * FUOTA_RANGE where a number of the configuration is out of range, or the size none of fuota_size, or FUOTA_NO_MEMORY,
+ * and then there is no device. Its sessions have room for files of that size within the area; a setup of more pieces or
+ * rows is refused with bit 2, so `rows` is at most those of the size for files of any pieces. */
+fuota_result fuota_device_new(fuota_device *handle, uint8_t size, const fuota_config *config);
 
 /* Frees the device, if there is one; the handle has none afterwards, and may be freed again. */
 void fuota_device_free(fuota_device *handle);
@@ -188,14 +202,14 @@ void fuota_device_free(fuota_device *handle);
  * which is counted; FUOTA_DOWN where its sessions are; FUOTA_RANGE at more than 242 bytes, and at a `t` out of range;
  * FUOTA_NO_OBJECT. A reboot that is due at `t` is carried out before the payload and after it, also where its commands
  * do not act, but not at FUOTA_DOWN and FUOTA_RANGE. */
-fuota_result fuota_device_deliver(fuota_device *handle, uint8_t port, const uint8_t *payload, size_t length,
+fuota_result fuota_device_deliver(fuota_device *handle, uint8_t port, const uint8_t *payload, fuota_length length,
                                   const fuota_arrival *arrival);
 
 /* Bytes that its radio heard come at `t` ms of true time, with 32 random bits and the caller's own mark. A multicast
  * frame of the group that is heard is answered as its payload by fuota_device_deliver; FUOTA_FOREIGN at other bytes,
  * which are counted as deaf; FUOTA_DOWN where its sessions are; FUOTA_RANGE at a `t` out of range; FUOTA_NO_OBJECT. A
  * reboot that is due at `t` is carried out, but not at FUOTA_DOWN and FUOTA_RANGE. */
-fuota_result fuota_device_radio(fuota_device *handle, const uint8_t *bytes, size_t length, uint64_t t,
+fuota_result fuota_device_radio(fuota_device *handle, const uint8_t *bytes, fuota_length length, uint64_t t,
                                 uint32_t word, uint64_t mark);
 
 /* The device wakes at `t` ms of true time and asks for the time: FUOTA_DONE; FUOTA_FULL where it holds 8 uplinks;
@@ -212,7 +226,8 @@ fuota_result fuota_device_view(fuota_device *handle, uint8_t index, fuota_view *
 
 /* Copies bytes of the whole file of the session of an index, from the offset on, as many as there are and have room;
  * their count, 0 also at another index and without a device. */
-size_t fuota_device_file(fuota_device *handle, uint8_t index, size_t offset, uint8_t *into, size_t room);
+fuota_length fuota_device_file(fuota_device *handle, uint8_t index, fuota_length offset, uint8_t *into,
+                               fuota_length room);
 
 /* The version of the firmware that runs, 0 at first, and another after a reboot (deliver, wake) into a received
  * image: FUOTA_DONE; FUOTA_NO_OBJECT. */
@@ -255,19 +270,21 @@ fuota_result fuota_device_raise(fuota_device *handle);
 /* What the device knows, as bytes for fuota_device_restore, at the front of `into`; their count, and 0 where they
  * have no room, or without a device. They are saved after a call, before its uplinks go out. They hold the keys of
  * its groups. */
-size_t fuota_device_save(fuota_device *handle, uint8_t *into, size_t room);
+fuota_length fuota_device_save(fuota_device *handle, uint8_t *into, fuota_length room);
 
 /* Copies bytes of the image file that was received to run next, or else of the one that runs, from the offset on,
  * as many as there are and have room; their count, 0 also where there is no file and without a device. */
-size_t fuota_device_firmware(fuota_device *handle, bool is_next, size_t offset, uint8_t *into, size_t room);
+fuota_length fuota_device_firmware(fuota_device *handle, bool is_next, fuota_length offset, uint8_t *into,
+                                   fuota_length room);
 
 /* Frees what was there, and puts the device of this configuration that saved these bytes into the handle, with the
  * files that ran and that was received to run next, each of length 0 where there was none: FUOTA_DONE. Its sessions
- * lay in memory, and are gone. There is no device after FUOTA_RANGE and FUOTA_NO_MEMORY, as of fuota_device_new,
- * and after FUOTA_CORRUPT, where no such device saved them. */
-fuota_result fuota_device_restore(fuota_device *handle, const fuota_config *config, const uint8_t *saved,
-                                  size_t saved_length, const uint8_t *running, size_t running_length,
-                                  const uint8_t *next, size_t next_length);
+ * lay in memory, and are gone; so it saves the same bytes again but for the four that say whose file was whole, which
+ * are 0 (docs/FORMATS.md), and the digest. There is no device after FUOTA_RANGE and FUOTA_NO_MEMORY, as of
+ * fuota_device_new, and after FUOTA_CORRUPT, where no such device saved them. */
+fuota_result fuota_device_restore(fuota_device *handle, uint8_t size, const fuota_config *config, const uint8_t *saved,
+                                  fuota_length saved_length, const uint8_t *running, fuota_length running_length,
+                                  const uint8_t *next, fuota_length next_length);
 
 /* ---- A device whose sessions are held in a flash ---- */
 
@@ -278,14 +295,15 @@ fuota_result fuota_device_restore(fuota_device *handle, const fuota_config *conf
 
 /* As fuota_device_new, of a device whose sessions are held in a flash of these bytes, each in `span` of them. They are
  * down until fuota_device_power. FUOTA_RANGE also where the flash has no room for four spans. */
-fuota_result fuota_device_new_in_flash(fuota_device *handle, const fuota_config *config, uint32_t span,
-                                       const uint8_t *flash, size_t flash_length);
+fuota_result fuota_device_new_in_flash(fuota_device *handle, uint8_t size, const fuota_config *config, uint32_t span,
+                                       const uint8_t *flash, fuota_length flash_length);
 
 /* As fuota_device_restore, of such a device. Its sessions are in the flash, and down until fuota_device_power. */
-fuota_result fuota_device_restore_in_flash(fuota_device *handle, const fuota_config *config, uint32_t span,
-                                           const uint8_t *flash, size_t flash_length, const uint8_t *saved,
-                                           size_t saved_length, const uint8_t *running, size_t running_length,
-                                           const uint8_t *next, size_t next_length);
+fuota_result fuota_device_restore_in_flash(fuota_device *handle, uint8_t size, const fuota_config *config, uint32_t span,
+                                           const uint8_t *flash, fuota_length flash_length, const uint8_t *saved,
+                                           fuota_length saved_length, const uint8_t *running,
+                                           fuota_length running_length, const uint8_t *next,
+                                           fuota_length next_length);
 
 /* Opens the sessions that are held in the flash, and offers each file that is whole, and was not when the device was last
  * up, to next: FUOTA_DONE; FUOTA_FLASH, and then they are down; FUOTA_NOTHING where sessions are in memory, and nothing
@@ -294,12 +312,12 @@ fuota_result fuota_device_power(fuota_device *handle);
 
 /* Copies bytes of the flash, from the offset on, as many as there are and have room; their count, 0 also where sessions
  * are in memory and without a device. */
-size_t fuota_device_flash(fuota_device *handle, size_t offset, uint8_t *into, size_t room);
+fuota_length fuota_device_flash(fuota_device *handle, fuota_length offset, uint8_t *into, fuota_length room);
 
 /* ---- The server of a campaign ---- */
 
 typedef struct fuota_server {
-    void *at;
+    uint64_t at;
 } fuota_server;
 
 #define FUOTA_SERVER_NONE { 0 }
@@ -324,13 +342,13 @@ typedef struct fuota_plan {
     uint8_t periodicity; /* 0 to 7, where is_class_b */
     uint8_t index;       /* FragIndex of the session on each device, 0 to 3 */
     uint8_t id;          /* McGroupID on each device, 0 to 3, where has_group */
-    bool has_group, has_window;
+    bool has_group, has_window; /* both, or neither */
     bool is_class_b;     /* the window is of class B; else of class C */
     uint8_t key[16];     /* McKey */
 } fuota_plan;
 
 /* A field of a plan that is wrong. They are looked at in this order: frag_size, parity, index, the group, the window,
- * the devices. */
+ * the devices. FUOTA_FIELD_WINDOW is also a group without a window, and a window without a group. */
 enum fuota_field {
     FUOTA_FIELD_FRAG_SIZE = 1,
     FUOTA_FIELD_PARITY = 2,
@@ -342,7 +360,7 @@ enum fuota_field {
 
 /* A payload on its way to devices. */
 typedef struct fuota_down {
-    size_t length;        /* bytes of payload */
+    fuota_length length;  /* bytes of payload */
     uint32_t addr;        /* McAddr, and frame count, where is_group; else as they were */
     uint32_t count;
     uint8_t port;
@@ -389,7 +407,8 @@ typedef struct fuota_stage {
  * with the first of them, as enum fuota_field says, in *field; and FUOTA_NO_MEMORY. The devices, 1 to 64, are
  * numbered from 1. */
 fuota_result fuota_server_new(fuota_server *handle, const fuota_plan *plan, const fuota_plan_device *devices,
-                              size_t devices_length, const uint8_t *image, size_t image_length, uint8_t *field);
+                              fuota_length devices_length, const uint8_t *image, fuota_length image_length,
+                              uint8_t *field);
 
 /* Frees the server, if there is one; the handle has none afterwards, and may be freed again. */
 void fuota_server_free(fuota_server *handle);
@@ -407,7 +426,7 @@ fuota_result fuota_server_status_all(fuota_server *handle, fuota_down *out);
 /* A payload to the group as its multicast frame of LoRaWAN 1.0.x, at the front of `into`; their count, and 0 where
  * the payload is not to the plan's group, has more than 242 bytes or is for port 0, where the frame has no room, or
  * without a server. A network server that is given payloads makes the frames itself. */
-size_t fuota_server_frame(fuota_server *handle, const fuota_down *down, uint8_t *into, size_t room);
+fuota_length fuota_server_frame(fuota_server *handle, const fuota_down *down, uint8_t *into, fuota_length room);
 
 /* What the server asks of a device now, by unicast; it is sent again when no answer comes: FUOTA_DONE;
  * FUOTA_NOTHING where it is updated or refused; FUOTA_RANGE where the plan has no device of this number, 1 to 64;
@@ -418,7 +437,7 @@ fuota_result fuota_server_ask(fuota_server *handle, uint8_t dev, fuota_down *out
  * send to it; FUOTA_NOTHING, where none is due; FUOTA_REFUSED, where the payload spells no commands; FUOTA_RANGE,
  * where the plan has no such device or the payload more than 242 bytes, and then nothing changes; FUOTA_NO_OBJECT. */
 fuota_result fuota_server_uplink(fuota_server *handle, uint8_t dev, uint8_t port, const uint8_t *payload,
-                                 size_t length, uint64_t t, fuota_down *out);
+                                 fuota_length length, uint64_t t, fuota_down *out);
 
 /* Where a device stands: FUOTA_DONE; FUOTA_RANGE where the plan has no such device; FUOTA_NO_OBJECT. */
 fuota_result fuota_server_ledger(fuota_server *handle, uint8_t dev, fuota_stage *out);
@@ -439,13 +458,13 @@ fuota_result fuota_server_last_status(fuota_server *handle, uint8_t dev, fuota_s
 /* What the server knows, as bytes for fuota_server_restore, at the front of `into`; their count, and 0 where they
  * have no room, or without a server. They are saved before the payload of a call goes out. There is no key among
  * them. */
-size_t fuota_server_save(fuota_server *handle, uint8_t *into, size_t room);
+fuota_length fuota_server_save(fuota_server *handle, uint8_t *into, fuota_length room);
 
 /* Frees what was there, and puts the server of this plan, devices and image that saved these bytes into the handle:
  * as fuota_server_new puts one at its start, and answered as there; FUOTA_CORRUPT where no such server saved them. */
 fuota_result fuota_server_restore(fuota_server *handle, const fuota_plan *plan, const fuota_plan_device *devices,
-                                  size_t devices_length, const uint8_t *image, size_t image_length,
-                                  const uint8_t *saved, size_t saved_length, uint8_t *field);
+                                  fuota_length devices_length, const uint8_t *image, fuota_length image_length,
+                                  const uint8_t *saved, fuota_length saved_length, uint8_t *field);
 
 /* ---- Payloads as text ---- */
 
@@ -458,17 +477,17 @@ enum fuota_why {
 
 /* A field is written at the answers that it names, and else as it was. */
 typedef struct fuota_decoded {
-    size_t length; /* bytes of the text, at FUOTA_DONE and FUOTA_NO_ROOM */
-    uint16_t at;   /* the byte at which reading stops, from 0, at FUOTA_REFUSED */
-    uint8_t why;   /* a value of enum fuota_why, at FUOTA_REFUSED */
+    fuota_length length; /* bytes of the text, at FUOTA_DONE and FUOTA_NO_ROOM */
+    uint16_t at;         /* the byte at which reading stops, from 0, at FUOTA_REFUSED */
+    uint8_t why;         /* a value of enum fuota_why, at FUOTA_REFUSED */
 } fuota_decoded;
 
 /* The commands of a payload of port 200 to 203, each on a line, at the front of `text`, with no 0 after it:
  * FUOTA_DONE, and out->length bytes of text; FUOTA_REFUSED; FUOTA_NO_ROOM, where the text has more than `room`
  * bytes, and its length is in out->length; FUOTA_RANGE at more than 242 bytes of payload; FUOTA_NO_MEMORY. `up`
  * says which way the payload goes: from a device, or to one. */
-fuota_result fuota_decode(uint8_t port, bool up, const uint8_t *payload, size_t length, uint8_t *text, size_t room,
-                          fuota_decoded *out);
+fuota_result fuota_decode(uint8_t port, bool up, const uint8_t *payload, fuota_length length, uint8_t *text,
+                          fuota_length room, fuota_decoded *out);
 
 /* ---- NULL for no bytes ---- */
 
@@ -483,100 +502,107 @@ static inline uint8_t *fuota_into(uint8_t *at) {
     return at ? at : &none;
 }
 
-static inline fuota_result fuota_receiver_hear_0(fuota_receiver *handle, const uint8_t *payload, size_t length,
+static inline fuota_result fuota_receiver_hear_0(fuota_receiver *handle, const uint8_t *payload, fuota_length length,
                                                  uint64_t mark) {
     return fuota_receiver_hear(handle, fuota_from(payload), length, mark);
 }
 
-static inline size_t fuota_receiver_file_0(fuota_receiver *handle, size_t offset, uint8_t *into, size_t room) {
+static inline fuota_length fuota_receiver_file_0(fuota_receiver *handle, fuota_length offset, uint8_t *into,
+                                                 fuota_length room) {
     return fuota_receiver_file(handle, offset, fuota_into(into), room);
 }
 
-static inline size_t fuota_receiver_status_0(fuota_receiver *handle, bool all, uint8_t *answer, size_t room) {
+static inline fuota_length fuota_receiver_status_0(fuota_receiver *handle, bool all, uint8_t *answer,
+                                                   fuota_length room) {
     return fuota_receiver_status(handle, all, fuota_into(answer), room);
 }
 
 static inline fuota_result fuota_device_deliver_0(fuota_device *handle, uint8_t port, const uint8_t *payload,
-                                                  size_t length, const fuota_arrival *arrival) {
+                                                  fuota_length length, const fuota_arrival *arrival) {
     return fuota_device_deliver(handle, port, fuota_from(payload), length, arrival);
 }
 
-static inline fuota_result fuota_device_radio_0(fuota_device *handle, const uint8_t *bytes, size_t length,
+static inline fuota_result fuota_device_radio_0(fuota_device *handle, const uint8_t *bytes, fuota_length length,
                                                 uint64_t t, uint32_t word, uint64_t mark) {
     return fuota_device_radio(handle, fuota_from(bytes), length, t, word, mark);
 }
 
-static inline size_t fuota_device_file_0(fuota_device *handle, uint8_t index, size_t offset, uint8_t *into,
-                                         size_t room) {
+static inline fuota_length fuota_device_file_0(fuota_device *handle, uint8_t index, fuota_length offset,
+                                               uint8_t *into, fuota_length room) {
     return fuota_device_file(handle, index, offset, fuota_into(into), room);
 }
 
-static inline size_t fuota_device_save_0(fuota_device *handle, uint8_t *into, size_t room) {
+static inline fuota_length fuota_device_save_0(fuota_device *handle, uint8_t *into, fuota_length room) {
     return fuota_device_save(handle, fuota_into(into), room);
 }
 
-static inline size_t fuota_device_firmware_0(fuota_device *handle, bool is_next, size_t offset, uint8_t *into,
-                                             size_t room) {
+static inline fuota_length fuota_device_firmware_0(fuota_device *handle, bool is_next, fuota_length offset,
+                                                   uint8_t *into, fuota_length room) {
     return fuota_device_firmware(handle, is_next, offset, fuota_into(into), room);
 }
 
-static inline fuota_result fuota_device_restore_0(fuota_device *handle, const fuota_config *config,
-                                                  const uint8_t *saved, size_t saved_length, const uint8_t *running,
-                                                  size_t running_length, const uint8_t *next, size_t next_length) {
-    return fuota_device_restore(handle, config, fuota_from(saved), saved_length, fuota_from(running),
+static inline fuota_result fuota_device_restore_0(fuota_device *handle, uint8_t size, const fuota_config *config,
+                                                  const uint8_t *saved, fuota_length saved_length,
+                                                  const uint8_t *running, fuota_length running_length,
+                                                  const uint8_t *next, fuota_length next_length) {
+    return fuota_device_restore(handle, size, config, fuota_from(saved), saved_length, fuota_from(running),
                                 running_length, fuota_from(next), next_length);
 }
 
-static inline fuota_result fuota_device_new_in_flash_0(fuota_device *handle, const fuota_config *config,
-                                                       uint32_t span, const uint8_t *flash, size_t flash_length) {
-    return fuota_device_new_in_flash(handle, config, span, fuota_from(flash), flash_length);
+static inline fuota_result fuota_device_new_in_flash_0(fuota_device *handle, uint8_t size, const fuota_config *config,
+                                                       uint32_t span, const uint8_t *flash,
+                                                       fuota_length flash_length) {
+    return fuota_device_new_in_flash(handle, size, config, span, fuota_from(flash), flash_length);
 }
 
-static inline fuota_result fuota_device_restore_in_flash_0(fuota_device *handle, const fuota_config *config,
-                                                           uint32_t span, const uint8_t *flash, size_t flash_length,
-                                                           const uint8_t *saved, size_t saved_length,
-                                                           const uint8_t *running, size_t running_length,
-                                                           const uint8_t *next, size_t next_length) {
-    return fuota_device_restore_in_flash(handle, config, span, fuota_from(flash), flash_length, fuota_from(saved),
+static inline fuota_result fuota_device_restore_in_flash_0(fuota_device *handle, uint8_t size, const fuota_config *config,
+                                                           uint32_t span, const uint8_t *flash,
+                                                           fuota_length flash_length, const uint8_t *saved,
+                                                           fuota_length saved_length, const uint8_t *running,
+                                                           fuota_length running_length, const uint8_t *next,
+                                                           fuota_length next_length) {
+    return fuota_device_restore_in_flash(handle, size, config, span, fuota_from(flash), flash_length, fuota_from(saved),
                                          saved_length, fuota_from(running), running_length, fuota_from(next),
                                          next_length);
 }
 
-static inline size_t fuota_device_flash_0(fuota_device *handle, size_t offset, uint8_t *into, size_t room) {
+static inline fuota_length fuota_device_flash_0(fuota_device *handle, fuota_length offset, uint8_t *into,
+                                                fuota_length room) {
     return fuota_device_flash(handle, offset, fuota_into(into), room);
 }
 
 static inline fuota_result fuota_server_new_0(fuota_server *handle, const fuota_plan *plan,
-                                              const fuota_plan_device *devices, size_t devices_length,
-                                              const uint8_t *image, size_t image_length, uint8_t *field) {
+                                              const fuota_plan_device *devices, fuota_length devices_length,
+                                              const uint8_t *image, fuota_length image_length, uint8_t *field) {
     return fuota_server_new(handle, plan, devices, devices_length, fuota_from(image), image_length, field);
 }
 
-static inline size_t fuota_server_frame_0(fuota_server *handle, const fuota_down *down, uint8_t *into,
-                                          size_t room) {
+static inline fuota_length fuota_server_frame_0(fuota_server *handle, const fuota_down *down, uint8_t *into,
+                                          fuota_length room) {
     return fuota_server_frame(handle, down, fuota_into(into), room);
 }
 
 static inline fuota_result fuota_server_uplink_0(fuota_server *handle, uint8_t dev, uint8_t port,
-                                                 const uint8_t *payload, size_t length, uint64_t t,
+                                                 const uint8_t *payload, fuota_length length, uint64_t t,
                                                  fuota_down *out) {
     return fuota_server_uplink(handle, dev, port, fuota_from(payload), length, t, out);
 }
 
-static inline size_t fuota_server_save_0(fuota_server *handle, uint8_t *into, size_t room) {
+static inline fuota_length fuota_server_save_0(fuota_server *handle, uint8_t *into, fuota_length room) {
     return fuota_server_save(handle, fuota_into(into), room);
 }
 
 static inline fuota_result fuota_server_restore_0(fuota_server *handle, const fuota_plan *plan,
-                                                  const fuota_plan_device *devices, size_t devices_length,
-                                                  const uint8_t *image, size_t image_length, const uint8_t *saved,
-                                                  size_t saved_length, uint8_t *field) {
+                                                  const fuota_plan_device *devices, fuota_length devices_length,
+                                                  const uint8_t *image, fuota_length image_length,
+                                                  const uint8_t *saved, fuota_length saved_length,
+                                                  uint8_t *field) {
     return fuota_server_restore(handle, plan, devices, devices_length, fuota_from(image), image_length,
                                 fuota_from(saved), saved_length, field);
 }
 
-static inline fuota_result fuota_decode_0(uint8_t port, bool up, const uint8_t *payload, size_t length,
-                                          uint8_t *text, size_t room, fuota_decoded *out) {
+static inline fuota_result fuota_decode_0(uint8_t port, bool up, const uint8_t *payload, fuota_length length,
+                                          uint8_t *text, fuota_length room, fuota_decoded *out) {
     return fuota_decode(port, up, fuota_from(payload), length, fuota_into(text), room, out);
 }
 

@@ -15,8 +15,8 @@ import enum
 import os
 import re
 
-U8, U16, U32, U64, SIZE, BOOL = (ctypes.c_uint8, ctypes.c_uint16, ctypes.c_uint32, ctypes.c_uint64, ctypes.c_size_t,
-                                 ctypes.c_bool)
+U8, U16, U32, U64, BOOL = ctypes.c_uint8, ctypes.c_uint16, ctypes.c_uint32, ctypes.c_uint64, ctypes.c_bool
+LENGTH = U64
 MAX_PAYLOAD = 242
 KEY = U8 * 16
 NO_RECEIVER = 255
@@ -24,44 +24,45 @@ SAVED_DEVICE, SAVED_SERVER, MAX_FRAME, LONGEST_SPAN = 492, 428, 255, 631_573
 
 CALLS = """
 uint32_t fuota_version(void);
+uint32_t fuota_pointer_bits(void);
 uint8_t fuota_receiver_new(fuota_receiver *, uint8_t);
 void fuota_receiver_free(fuota_receiver *);
 uint8_t fuota_receiver_set_up(fuota_receiver *, const fuota_setup *);
-uint8_t fuota_receiver_hear(fuota_receiver *, const uint8_t *, size_t, uint64_t);
+uint8_t fuota_receiver_hear(fuota_receiver *, const uint8_t *, fuota_length, uint64_t);
 uint8_t fuota_receiver_view(fuota_receiver *, fuota_view *);
-size_t fuota_receiver_file(fuota_receiver *, size_t, uint8_t *, size_t);
-size_t fuota_receiver_status(fuota_receiver *, bool, uint8_t *, size_t);
-uint8_t fuota_device_new(fuota_device *, const fuota_config *);
+fuota_length fuota_receiver_file(fuota_receiver *, fuota_length, uint8_t *, fuota_length);
+fuota_length fuota_receiver_status(fuota_receiver *, bool, uint8_t *, fuota_length);
+uint8_t fuota_device_new(fuota_device *, uint8_t, const fuota_config *);
 void fuota_device_free(fuota_device *);
-uint8_t fuota_device_deliver(fuota_device *, uint8_t, const uint8_t *, size_t, const fuota_arrival *);
-uint8_t fuota_device_radio(fuota_device *, const uint8_t *, size_t, uint64_t, uint32_t, uint64_t);
+uint8_t fuota_device_deliver(fuota_device *, uint8_t, const uint8_t *, fuota_length, const fuota_arrival *);
+uint8_t fuota_device_radio(fuota_device *, const uint8_t *, fuota_length, uint64_t, uint32_t, uint64_t);
 uint8_t fuota_device_wake(fuota_device *, uint64_t);
 uint8_t fuota_device_take_uplink(fuota_device *, fuota_uplink *);
 uint8_t fuota_device_view(fuota_device *, uint8_t, fuota_view *);
-size_t fuota_device_file(fuota_device *, uint8_t, size_t, uint8_t *, size_t);
+fuota_length fuota_device_file(fuota_device *, uint8_t, fuota_length, uint8_t *, fuota_length);
 uint8_t fuota_device_running(fuota_device *, uint32_t *);
 uint8_t fuota_device_counts(fuota_device *, fuota_counts *);
 uint8_t fuota_device_next(fuota_device *, fuota_next *);
 uint8_t fuota_device_raise(fuota_device *);
-size_t fuota_device_save(fuota_device *, uint8_t *, size_t);
-size_t fuota_device_firmware(fuota_device *, bool, size_t, uint8_t *, size_t);
-uint8_t fuota_device_restore(fuota_device *, const fuota_config *, const uint8_t *, size_t, const uint8_t *, size_t, const uint8_t *, size_t);
-uint8_t fuota_device_new_in_flash(fuota_device *, const fuota_config *, uint32_t, const uint8_t *, size_t);
-uint8_t fuota_device_restore_in_flash(fuota_device *, const fuota_config *, uint32_t, const uint8_t *, size_t, const uint8_t *, size_t, const uint8_t *, size_t, const uint8_t *, size_t);
+fuota_length fuota_device_save(fuota_device *, uint8_t *, fuota_length);
+fuota_length fuota_device_firmware(fuota_device *, bool, fuota_length, uint8_t *, fuota_length);
+uint8_t fuota_device_restore(fuota_device *, uint8_t, const fuota_config *, const uint8_t *, fuota_length, const uint8_t *, fuota_length, const uint8_t *, fuota_length);
+uint8_t fuota_device_new_in_flash(fuota_device *, uint8_t, const fuota_config *, uint32_t, const uint8_t *, fuota_length);
+uint8_t fuota_device_restore_in_flash(fuota_device *, uint8_t, const fuota_config *, uint32_t, const uint8_t *, fuota_length, const uint8_t *, fuota_length, const uint8_t *, fuota_length, const uint8_t *, fuota_length);
 uint8_t fuota_device_power(fuota_device *);
-size_t fuota_device_flash(fuota_device *, size_t, uint8_t *, size_t);
-uint8_t fuota_server_new(fuota_server *, const fuota_plan *, const fuota_plan_device *, size_t, const uint8_t *, size_t, uint8_t *);
+fuota_length fuota_device_flash(fuota_device *, fuota_length, uint8_t *, fuota_length);
+uint8_t fuota_server_new(fuota_server *, const fuota_plan *, const fuota_plan_device *, fuota_length, const uint8_t *, fuota_length, uint8_t *);
 void fuota_server_free(fuota_server *);
 uint8_t fuota_server_next_fragment(fuota_server *, fuota_down *);
 uint8_t fuota_server_status_all(fuota_server *, fuota_down *);
-size_t fuota_server_frame(fuota_server *, const fuota_down *, uint8_t *, size_t);
+fuota_length fuota_server_frame(fuota_server *, const fuota_down *, uint8_t *, fuota_length);
 uint8_t fuota_server_ask(fuota_server *, uint8_t, fuota_down *);
-uint8_t fuota_server_uplink(fuota_server *, uint8_t, uint8_t, const uint8_t *, size_t, uint64_t, fuota_down *);
+uint8_t fuota_server_uplink(fuota_server *, uint8_t, uint8_t, const uint8_t *, fuota_length, uint64_t, fuota_down *);
 uint8_t fuota_server_ledger(fuota_server *, uint8_t, fuota_stage *);
 uint8_t fuota_server_last_status(fuota_server *, uint8_t, fuota_status *);
-size_t fuota_server_save(fuota_server *, uint8_t *, size_t);
-uint8_t fuota_server_restore(fuota_server *, const fuota_plan *, const fuota_plan_device *, size_t, const uint8_t *, size_t, const uint8_t *, size_t, uint8_t *);
-uint8_t fuota_decode(uint8_t, bool, const uint8_t *, size_t, uint8_t *, size_t, fuota_decoded *);
+fuota_length fuota_server_save(fuota_server *, uint8_t *, fuota_length);
+uint8_t fuota_server_restore(fuota_server *, const fuota_plan *, const fuota_plan_device *, fuota_length, const uint8_t *, fuota_length, const uint8_t *, fuota_length, uint8_t *);
+uint8_t fuota_decode(uint8_t, bool, const uint8_t *, fuota_length, uint8_t *, fuota_length, fuota_decoded *);
 """
 
 
@@ -260,13 +261,13 @@ class Struct(ctypes.Structure):
 class Handle(ctypes.Structure):
     """What C keeps of an object."""
 
-    _fields_ = [("at", ctypes.c_void_p)]
+    _fields_ = [("at", U64)]
 
 
 class View(Struct):
     """What a session shows."""
 
-    _fields_ = [("mark", U64), ("file_length", SIZE), ("received", U16), ("missing", U16), ("verdict", U8)]
+    _fields_ = [("mark", U64), ("file_length", LENGTH), ("received", U16), ("missing", U16), ("verdict", U8)]
 
 
 class Setup(Struct):
@@ -293,7 +294,7 @@ class Arrival(Struct):
 class Uplink(Struct):
     """A payload that a device sends at `due`."""
 
-    _fields_ = [("due", U64), ("length", SIZE), ("port", U8), ("payload", U8 * MAX_PAYLOAD)]
+    _fields_ = [("due", U64), ("length", LENGTH), ("port", U8), ("payload", U8 * MAX_PAYLOAD)]
 
     @property
     def data(self):
@@ -301,7 +302,7 @@ class Uplink(Struct):
 
 
 class Plan(Struct):
-    """What a server is to do, but for its devices."""
+    """What a server is to do, but for its devices; a group and a window go together."""
 
     _fields_ = [("addr", U32), ("min", U32), ("max", U32), ("start", U32), ("freq", U32), ("parity", U16),
                 ("frag_size", U8), ("timeout", U8), ("dr", U8), ("periodicity", U8), ("index", U8), ("id", U8),
@@ -335,7 +336,7 @@ class Status(Struct):
 class Down(Struct):
     """A payload on its way to devices; by unicast, or to the group `addr` with the frame count `count`."""
 
-    _fields_ = [("length", SIZE), ("addr", U32), ("count", U32), ("port", U8), ("is_group", BOOL),
+    _fields_ = [("length", LENGTH), ("addr", U32), ("count", U32), ("port", U8), ("is_group", BOOL),
                 ("payload", U8 * MAX_PAYLOAD)]
 
     @property
@@ -352,14 +353,14 @@ class Stage(Struct):
 class Decoded(Struct):
     """What `fuota_decode` tells."""
 
-    _fields_ = [("length", SIZE), ("at", U16), ("why", U8)]
+    _fields_ = [("length", LENGTH), ("at", U16), ("why", U8)]
 
 
 STRUCTS = {"fuota_receiver": Handle, "fuota_device": Handle, "fuota_server": Handle, "fuota_view": View,
            "fuota_setup": Setup, "fuota_config": Config, "fuota_arrival": Arrival, "fuota_uplink": Uplink,
            "fuota_plan": Plan, "fuota_plan_device": PlanDevice, "fuota_counts": Counts, "fuota_next": Next,
            "fuota_status": Status, "fuota_down": Down, "fuota_stage": Stage, "fuota_decoded": Decoded}
-TYPES = {"uint8_t": U8, "uint16_t": U16, "uint32_t": U32, "uint64_t": U64, "size_t": SIZE, "bool": BOOL, "void": None}
+TYPES = {"uint8_t": U8, "uint16_t": U16, "uint32_t": U32, "uint64_t": U64, "fuota_length": LENGTH, "bool": BOOL, "void": None}
 
 
 # ---- The library
@@ -406,6 +407,10 @@ class Library:
         """Its version, as three numbers."""
         number = self.call("version")
         return number >> 16, number >> 8 & 255, number & 255
+
+    def pointer_bits(self):
+        """The bits of a pointer for which it was built."""
+        return self.call("pointer_bits")
 
     def decode(self, port, up, payload):
         """The commands of a payload of port 200 to 203, each on a line; `NoText` where it spells none."""
@@ -497,29 +502,30 @@ class Receiver(Object):
 
 
 class Device(Object):
-    """A device of all four packages, of a `Config`. With a flash, of at least four spans, its sessions are held there, and are
-    down until `power`; a new flash is zeros."""
+    """A device of all four packages, of a `Config`, whose sessions have room for files of a `Size`. With a flash, of at least
+    four spans, its sessions are held there, and are down until `power`; a new flash is zeros."""
 
     kind = "device"
 
-    def __init__(self, config, library=None, flash=None, span=LONGEST_SPAN):
+    def __init__(self, config, library=None, flash=None, span=LONGEST_SPAN, size=Size.SIZE_LARGE):
         super().__init__(library)
-        self.begin("new", config, flash, span)
+        self.begin("new", size, config, flash, span)
 
     @classmethod
-    def restore(cls, config, saved, running=b"", following=b"", library=None, flash=None, span=LONGEST_SPAN):
+    def restore(
+            cls, config, saved, running=b"", following=b"", library=None, flash=None, span=LONGEST_SPAN, size=Size.SIZE_LARGE):
         """The device that saved these bytes, with the files that ran and that was received to run next."""
         device = cls.__new__(cls)
         Object.__init__(device, library)
-        device.begin("restore", config, flash, span, *held(saved), *held(running), *held(following))
+        device.begin("restore", size, config, flash, span, *held(saved), *held(running), *held(following))
         return device
 
-    def begin(self, name, config, flash, span, *words):
-        self.area, self.size = config.area, 0 if flash is None else len(flash)
+    def begin(self, name, size, config, flash, span, *words):
+        self.area, self.flash_size = config.area, 0 if flash is None else len(flash)
         if flash is None:
-            self.done(name, ctypes.byref(config), *words)
+            self.done(name, size, ctypes.byref(config), *words)
         else:
-            self.done(f"{name}_in_flash", ctypes.byref(config), span, *held(flash), *words)
+            self.done(f"{name}_in_flash", size, ctypes.byref(config), span, *held(flash), *words)
 
     def power(self):
         """Opens the sessions that are held in its flash."""
@@ -527,7 +533,7 @@ class Device(Object):
 
     def flash(self):
         """The bytes of its flash, to be kept with those of `save`."""
-        return self.copied("flash", self.size, 0)
+        return self.copied("flash", self.flash_size, 0)
 
     def deliver(self, port, payload, t, mark=0, word=0, group=None):
         """Brings a payload at `t` ms of true time; `group` is a pair of address and frame count, or None by unicast."""

@@ -54,7 +54,7 @@ static void receiver_hear(void) { answer = fuota_receiver_hear(&receiver, down.p
 static void receiver_view(void) { answer = fuota_receiver_view(&receiver, &view); }
 static void receiver_file(void) { fuota_receiver_file(&receiver, 0, file, sizeof file); }
 static void receiver_status(void) { fuota_receiver_status(&receiver, true, text, sizeof text); }
-static void device_new(void) { answer = fuota_device_new(&device, &config); }
+static void device_new(void) { answer = fuota_device_new(&device, FUOTA_SIZE_LARGE, &config); }
 static void device_free(void) { fuota_device_free(&device); }
 static void device_deliver(void) {
     answer = fuota_device_deliver(&device, down.port, down.payload, down.length, &arrival);
@@ -71,14 +71,14 @@ static void device_running(void) { answer = fuota_device_running(&device, &versi
 static void device_save(void) { kept_length = fuota_device_save(&device, kept, sizeof kept); }
 static void device_firmware(void) { file_length = fuota_device_firmware(&device, true, 0, file, sizeof file); }
 static void device_restore(void) {
-    answer = fuota_device_restore(&device, &config, kept, kept_length, kept, 0, file, file_length);
+    answer = fuota_device_restore(&device, FUOTA_SIZE_LARGE, &config, kept, kept_length, kept, 0, file, file_length);
 }
 static void device_new_in_flash(void) {
-    answer = fuota_device_new_in_flash(&device, &config, FUOTA_LONGEST_SPAN, flash, sizeof flash);
+    answer = fuota_device_new_in_flash(&device, FUOTA_SIZE_LARGE, &config, FUOTA_LONGEST_SPAN, flash, sizeof flash);
 }
 static void device_restore_in_flash(void) {
-    answer = fuota_device_restore_in_flash(&device, &config, FUOTA_LONGEST_SPAN, flash, sizeof flash, kept, kept_length,
-                                           kept, 0, file, file_length);
+    answer = fuota_device_restore_in_flash(&device, FUOTA_SIZE_LARGE, &config, FUOTA_LONGEST_SPAN, flash, sizeof flash, kept,
+                                           kept_length, kept, 0, file, file_length);
 }
 static void device_power(void) { answer = fuota_device_power(&device); }
 static void device_flash(void) { fuota_device_flash(&device, 0, flash, sizeof flash); }
@@ -103,6 +103,7 @@ static void server_restore(void) {
     answer = fuota_server_restore(&server, &plan, devices, 1, image, image_length, saved, saved_length, &field);
 }
 static void library_version(void) { version = fuota_version(); }
+static void library_pointer_bits(void) { version = fuota_pointer_bits(); }
 static void decode(void) { answer = fuota_decode(up.port, true, up.payload, up.length, text, sizeof text, &decoded); }
 
 typedef struct call {
@@ -126,7 +127,8 @@ static call calls[] = {
     {server_new, "server_new", 0}, {server_free, "server_free", 0}, {server_next_fragment, "server_next_fragment", 0},
     {server_status_all, "server_status_all", 0}, {server_ask, "server_ask", 0}, {server_uplink, "server_uplink", 0},
     {server_ledger, "server_ledger", 0}, {server_save, "server_save", 0}, {server_restore, "server_restore", 0},
-    {server_frame, "server_frame", 0}, {server_last_status, "server_last_status", 0}, {library_version, "version", 0}, {decode, "decode", 0}};
+    {server_frame, "server_frame", 0}, {server_last_status, "server_last_status", 0}, {library_version, "version", 0},
+    {library_pointer_bits, "pointer_bits", 0}, {decode, "decode", 0}};
 
 enum { CALLS = sizeof calls / sizeof calls[0] };
 
@@ -214,6 +216,7 @@ static void play(int campaign) {
     made(device_next);
     made(device_raise);
     made(library_version);
+    made(library_pointer_bits);
     made(device_save);
     made(device_firmware);
     made(device_restore);

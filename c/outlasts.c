@@ -41,13 +41,13 @@ static fuota_result begin(fuota_device *device, const char *path) {
     FILE *file = fopen(path, "rb");
     fuota_result answer;
     if (!file) {
-        answer = fuota_device_new_in_flash(device, &config, SPAN, kept.flash, FLASH);
+        answer = fuota_device_new_in_flash(device, FUOTA_SIZE_LARGE, &config, SPAN, kept.flash, FLASH);
     } else {
         if (fread(&kept, sizeof kept, 1, file) != 1 || kept.running_length > AREA || kept.next_length > AREA)
             memset(&kept, 0, sizeof kept); /* which is no device */
         fclose(file);
-        answer = fuota_device_restore_in_flash(device, &config, SPAN, kept.flash, FLASH, kept.saved, sizeof kept.saved,
-                                               kept.running, kept.running_length, kept.next, kept.next_length);
+        answer = fuota_device_restore_in_flash(device, FUOTA_SIZE_LARGE, &config, SPAN, kept.flash, FLASH, kept.saved,
+                                               sizeof kept.saved, kept.running, kept.running_length, kept.next, kept.next_length);
     }
     return answer == FUOTA_DONE ? fuota_device_power(device) : answer;
 }

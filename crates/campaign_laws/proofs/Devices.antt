@@ -15,7 +15,7 @@ use Rattle.frag_session.specs.declared.answers.Via.TheVariants as via
 use Rattle.device_core.specs.declared.arrival.Arrival.{Arrival}
 use Rattle.device_core.specs.declared.config.Class.TheVariants as class
 use Rattle.device_core.specs.declared.uplink.Uplink.{Uplink}
-use Rattle.device_core.specs.Device.{DeviceState, max_area}
+use Rattle.device_core.specs.Device.{DeviceState, max_area, large_size}
 use Rattle.device_core.specs.Answers.{DeviceStep, uplink_of, after_answers, one_answer}
 use Rattle.device_core.specs.ClassSessions.{hears}
 use Rattle.device_core.specs.Firmware.{after_due_reboot}
@@ -30,10 +30,10 @@ use Rattle.campaign_server.specs.Asking.{request_at}
 use Rattle.campaign_server.specs.Answers.{stage_after}
 use Rattle.campaign_server.specs.Time.{time_answer_to}
 use Rattle.campaign_laws.proofs.Stands.{IsPlan, TakesTurn, behind}
-use Rattle.device_core.specs.declared.config.DeviceConfig.{DeviceConfig}
+use Rattle.device_core.specs.Configuration.{Configuration}
 
 -- what a line of a seed's script makes of its configuration; no reboot is set, and no uplink held
-pub record IsPlainConfig (c : DeviceConfig) : Type 0 where
+pub record IsPlainConfig (c : Configuration) : Type 0 where
   pub class : c.class ≡ class.C
   pub hw : c.hw ≡ 1
   pub rows : c.rows ≡ 64
@@ -41,6 +41,7 @@ pub record IsPlainConfig (c : DeviceConfig) : Type 0 where
   pub sessions : c.sessions ≡ 4
   pub area : c.area ≡ max_area
   pub memory : c.held ≡ false
+  pub size : c.size ≡ large_size
 
 pub record IsPlain (d : DeviceState) : Type 0 where
   pub config : IsPlainConfig d.config

@@ -15,9 +15,9 @@ use Rattle.clock_sync.specs.Clock.{correction_of, is_answer_needed}
 use Rattle.package_grammar.specs.declared.command.Command.{Command}
 use Rattle.package_grammar.specs.declared.command.Command.TheVariants.{Sync, Cast}
 use Rattle.package_grammar.specs.declared.downlink.To.TheVariants.{Unicast}
-use Rattle.device_core.specs.declared.config.DeviceConfig.{DeviceConfig}
+use Rattle.device_core.specs.Configuration.{Configuration}
 use Rattle.device_core.specs.SessionTable.{SessionTable, session_at}
-use Rattle.device_core.specs.Device.{DeviceState, limits_of, max_area, max_rows}
+use Rattle.device_core.specs.Device.{DeviceState, limits_of, max_area, max_rows, large_size}
 use Rattle.campaign_server.specs.declared.plan.Kind.{Kind}
 use Rattle.campaign_server.specs.declared.plan.Kind.TheVariants as kind
 use Rattle.campaign_server.specs.declared.plan.PlanGroup.{PlanGroup}
@@ -101,14 +101,15 @@ fragment_set image cut s way n part mark f k =
 -- ---- a device
 
 -- what the lines of devices allow
-pub record IsBounded (config : DeviceConfig) : Type 0 where
+pub record IsBounded (config : Configuration) : Type 0 where
   pub sessions : config.sessions ≡ 4
   pub area : config.area ≡ max_area
   pub rows : config.rows ≤ max_rows
   pub flash : config.span ≡ span_of config.held
+  pub size : config.size ≡ large_size
 
 -- the session has the rows that the device keeps, or a row a piece
-abbrev pub HasRows : List ℕ → Cut → DeviceConfig → Session → Type 0
+abbrev pub HasRows : List ℕ → Cut → Configuration → Session → Type 0
 HasRows image cut config s = s.rows ≡ rows_of config.rows (setup_req image cut)
 
 -- it holds no uplink, and its session, if it has one, is the server's
@@ -119,21 +120,21 @@ pub record IsDeviceFor (image : List ℕ) (cut : Cut) (d : DeviceState) : Type 0
   pub alone : HasNoOther cut.index d.sessions
   pub bounds : IsBounded d.config
 
-setup_rows : (image : List ℕ) (cut : Cut) (config : DeviceConfig) (here : Room) (s : Option Session)
+setup_rows : (image : List ℕ) (cut : Cut) (config : Configuration) (here : Room) (s : Option Session)
     → IfSome s (HasRows image cut config)
     → IfSome (after_setup (limits_of config) here s (setup_req image cut)) (HasRows image cut config)
 unfolding new_session
 setup_rows image cut config here s k =
     setup_keeps (HasRows image cut config) (limits_of config) here s (setup_req image cut) (λ makes. refl) k
 
-fragment_rows : (image : List ℕ) (cut : Cut) (config : DeviceConfig) (s : Option Session) (way : Via) (n : ℕ)
+fragment_rows : (image : List ℕ) (cut : Cut) (config : Configuration) (s : Option Session) (way : Via) (n : ℕ)
     (part : List ℕ) (mark : ℕ) → IfSome s (HasRows image cut config)
     → IfSome (after_fragment s way n part mark) (HasRows image cut config)
 unfolding followed
 fragment_rows image cut config s way n part mark k =
     fragment_keeps (HasRows image cut config) s way n part mark (λ x r. r) k
 
-moved : (image : List ℕ) (cut : Cut) (F : DeviceConfig → Option Session → Option Session) (d e : DeviceState) → IsCut image cut
+moved : (image : List ℕ) (cut : Cut) (F : Configuration → Option Session → Option Session) (d e : DeviceState) → IsCut image cut
     → IsDeviceFor image cut d → Moves cut.index F d e → e.outbox ≡ []
     → IfSome (F d.config (session_at d.sessions cut.index)) (IsSetFor image cut)
     → IfSome (F d.config (session_at d.sessions cut.index)) (HasRows image cut d.config) → IsDeviceFor image cut e
@@ -144,7 +145,7 @@ moved image cut F d e is k m empty session rows =
     record {
       empty = empty;
       session = subst (λ (o : Option Session). IfSome o (IsSetFor image cut)) (sym own) session;
-      rows = subst (λ (x : DeviceConfig). IfSome (session_at e.sessions cut.index) (HasRows image cut x)) (sym m.config)
+      rows = subst (λ (x : Configuration). IfSome (session_at e.sessions cut.index) (HasRows image cut x)) (sym m.config)
           (subst (λ (o : Option Session). IfSome o (HasRows image cut d.config)) (sym own) rows);
       bounds = subst IsBounded (sym m.config) k.bounds;
       alone = λ i low other. ap (λ (t : SessionTable). session_at t i) m.sessions
@@ -156,7 +157,7 @@ pub stays_for : (image : List ℕ) (cut : Cut) (d e : DeviceState) → IsDeviceF
 stays_for image cut d e k m empty = record {
   empty = empty;
   session = subst (λ (t : SessionTable). IfSome (session_at t cut.index) (IsSetFor image cut)) (sym m.sessions) k.session;
-  rows = subst (λ (x : DeviceConfig). IfSome (session_at e.sessions cut.index) (HasRows image cut x)) (sym m.config)
+  rows = subst (λ (x : Configuration). IfSome (session_at e.sessions cut.index) (HasRows image cut x)) (sym m.config)
       (subst (λ (t : SessionTable). IfSome (session_at t cut.index) (HasRows image cut d.config)) (sym m.sessions) k.rows);
   bounds = subst IsBounded (sym m.config) k.bounds;
   alone = λ i low other. ap (λ (t : SessionTable). session_at t i) m.sessions ∙ k.alone i low other;

@@ -17,7 +17,7 @@ use Rattle.package_grammar.specs.declared.command.Command.TheVariants.{Cast}
 use Rattle.package_grammar.specs.declared.downlink.To.{To}
 use Rattle.package_grammar.specs.declared.downlink.To.TheVariants.{Unicast}
 use Rattle.package_grammar.specs.declared.downlink.Downlink.{Downlink}
-use Rattle.device_core.specs.declared.config.DeviceConfig.{DeviceConfig}
+use Rattle.device_core.specs.Configuration.{Configuration}
 use Rattle.device_core.specs.SessionTable.{SessionTable, session_at}
 use Rattle.device_core.specs.Device.{DeviceState, first_device}
 use Rattle.device_core.specs.ClassSessions.{hears}
@@ -216,7 +216,7 @@ delivers lines sent id n p down c line number word line_is form got down_is is g
 )
 
 moved_came : (image : List ℕ) (lines : List Line) (sent : List SentPayload) (id index n : ℕ)
-    (F : DeviceConfig → Option Session → Option Session) (d e : DeviceState) → Moves index F d e
+    (F : Configuration → Option Session → Option Session) (d e : DeviceState) → Moves index F d e
     → IfSome (F d.config (session_at d.sessions index)) (SessionCame image lines sent id n)
     → DeviceCame image lines sent id index n e
 moved_came image lines sent id index n F d e m h =
@@ -339,7 +339,7 @@ device_later image lines sent id index n o h =
     (λ d c. session_later image lines sent id n (session_at d.sessions index) c) h
 
 joined_came : (image : List ℕ) (index : ℕ) (lines : List Line) (sent : List SentPayload) (n : ℕ) (ds : List DeviceState)
-    (config : DeviceConfig) → AllCame image index lines sent n ds
+    (config : Configuration) → AllCame image index lines sent n ds
     → AllCame image index lines sent (n + 1) (ds ++ first_device config ∷ [])
 unfolding AllCame
 joined_came image index lines sent n ds config h id = elim (numbered_push ds (first_device config) id) [

@@ -4,15 +4,15 @@ use Rattle.std.proofs.lemmas.Bool.{le-leb}
 use Rattle.std.proofs.lemmas.Bool.Decides.{nat_tests}
 use Rattle.std.proofs.lemmas.Grind.{div_ceil_times}
 use Rattle.frag_encoder.specs.Encoding.{nb_frag_of, padding_of}
-use Rattle.row_elimination.specs.Room.{extent_for, words_for, has_room}
+use Rattle.row_elimination.specs.Room.{words_for, has_room}
 use Rattle.frag_session.specs.declared.setups.SetupReq.{SetupReq}
 use Rattle.frag_session.specs.Setup.{flash_for, too_long, wrong_coding, too_large, other_descriptor, setup_bits}
 use Rattle.frag_session.specs.Session.{Session}
 use Rattle.image_slots.specs.Image.{is_image, firmware_of}
 use Rattle.image_slots.proofs.ImageLemmas.{image_long, image_short}
 use Rattle.package_grammar.specs.declared.command.Command.{Command}
-use Rattle.device_core.specs.declared.config.DeviceConfig.{DeviceConfig}
-use Rattle.device_core.specs.Device.{limits_of, room_of, max_area, max_rows, row_words, row_bytes}
+use Rattle.device_core.specs.Configuration.{Configuration}
+use Rattle.device_core.specs.Device.{limits_of, room_of, max_area, max_rows, row_words, row_bytes, large_size, session_extent}
 use Rattle.frag_model.specs.Limits.{max_frag_size, max_pieces}
 use Rattle.row_elimination.specs.HeldTable.{max_line_words}
 use Rattle.campaign_world.specs.Making.{flash_span, span_of}
@@ -49,8 +49,8 @@ few_words n few = omega (arith, few)
 min_first : (a b : ℕ) → min a b ≤ a
 min_first a b = grind (arith, nat_tests)
 
-room_there : (config : DeviceConfig) (pieces size : ℕ) → IsBounded config → pieces ≤ max_pieces → size ≤ max_frag_size
-    → pieces * size ≤ max_area → has_room row_words row_bytes (extent_for config.area) pieces size (min config.rows pieces) ≡ true
+room_there : (config : Configuration) (pieces size : ℕ) → IsBounded config → pieces ≤ max_pieces → size ≤ max_frag_size
+    → pieces * size ≤ max_area → has_room config.size.words config.size.bytes (session_extent config.size config.area) pieces size (min config.rows pieces) ≡ true
 unfolding has_room
 room_there config pieces size k few small fits =
     let rows : min config.rows pieces ≤ max_rows = omega (arith, min_first config.rows pieces, k.rows) in
@@ -58,6 +58,7 @@ room_there config pieces size k few small fits =
     let bytes : min config.rows pieces * size ≤ max_rows * max_frag_size = mul-le-mul rows small in
     let area : pieces * size ≤ config.area = omega (arith, fits, k.area) in
     rw (
+      k.size,
       le-leb (min config.rows pieces * words_for pieces) row_words (omega (arith, words)),
       le-leb (min config.rows pieces * size) row_bytes (omega (arith, bytes)),
       le-leb (pieces * size) config.area area,
@@ -71,14 +72,14 @@ flash_there pieces size few small fits =
     let product : (2 * pieces + 1) * (10 + size) ≡ 20 * pieces + 2 * (pieces * size) + 10 + size = grind arith in
     omega (arith, product, few, small, fits)
 
-enough_flash : (config : DeviceConfig) (req : SetupReq) (held : Bool) → config.held ≡ held → config.span ≡ span_of config.held
+enough_flash : (config : Configuration) (req : SetupReq) (held : Bool) → config.held ≡ held → config.span ≡ span_of config.held
     → flash_for req ≤ flash_span → too_long (room_of config).span req ≡ false
 enough_flash config req false is span fits = rw (is) refl
 enough_flash config req true is span fits =
     let long : config.span ≡ flash_span = span ∙ ap span_of is in
     rw (is) (le-ltb config.span (flash_for req) (omega (arith, fits, long)))
 
-pub takes_setup : (image : List ℕ) (cut : Cut) (config : DeviceConfig) → is_image image ≡ true → IsCut image cut
+pub takes_setup : (image : List ℕ) (cut : Cut) (config : Configuration) → is_image image ≡ true → IsCut image cut
     → IsBounded config → other_descriptor config.descriptor (firmware_of image) ≡ false
     → setup_bits (limits_of config) (room_of config) (setup_req image cut) ≡ 0
 unfolding setup_bits wrong_coding too_large
@@ -114,7 +115,7 @@ campaign_cut image index lines world bytes fits honest is =
 
 -- ---- a session
 
-lives_by : (image : List ℕ) (cut : Cut) (brings : ℕ → Command → Type 0) (last n : ℕ) (config : DeviceConfig)
+lives_by : (image : List ℕ) (cut : Cut) (brings : ℕ → Command → Type 0) (last n : ℕ) (config : Configuration)
     (o : Option Session) → setup_bits (limits_of config) (room_of config) (setup_req image cut) ≡ 0
     → SessionHears image cut brings last config o → n ≤ last → brings n (setup_request image cut) → is_some o ≡ true
 lives_by image cut brings last n config None takes h le b = absurd (h takes n le b)

@@ -21,7 +21,7 @@ use Rattle.package_grammar.specs.Grammar.{row, canonical, SpellsTo, IsReading}
 use Rattle.package_grammar.specs.Reading.{Reading, reading_of}
 use Rattle.package_grammar.proofs.Tables.{cast_port}
 use Rattle.package_grammar.proofs.ReadingLaw.{reads}
-use Rattle.device_core.specs.declared.config.DeviceConfig.{DeviceConfig}
+use Rattle.device_core.specs.Configuration.{Configuration}
 use Rattle.device_core.specs.declared.arrival.Arrival.{Arrival}
 use Rattle.device_core.specs.declared.delivered.Delivered.{Delivered}
 use Rattle.device_core.specs.declared.delivered.Delivered.TheVariants.{Deaf, OutboxFull, Done}
@@ -44,10 +44,10 @@ use Rattle.campaign_laws.proofs.HeadlineCommands.{Cut, setup_req, setup_request,
 
 -- ---- what a device becomes
 
-abbrev pub set_up : (image : List ℕ) → Cut → DeviceConfig → Option Session → Option Session
+abbrev pub set_up : (image : List ℕ) → Cut → Configuration → Option Session → Option Session
 set_up image cut config session = after_setup (limits_of config) (room_of config) session (setup_req image cut)
 
-abbrev pub fed : Via → (n : ℕ) → List ℕ → (mark : ℕ) → DeviceConfig → Option Session → Option Session
+abbrev pub fed : Via → (n : ℕ) → List ℕ → (mark : ℕ) → Configuration → Option Session → Option Session
 fed way n part mark config session = after_fragment session way n part mark
 
 -- ---- a payload is read
@@ -104,7 +104,7 @@ good_moves P t word mark to m c keeps good light does makes empty on =
 
 -- ---- each command
 
-moves_keep : (index : ℕ) (F : DeviceConfig → Option Session → Option Session) (m e : DeviceState) (due : Option ℕ) (uplinks : List Uplink)
+moves_keep : (index : ℕ) (F : Configuration → Option Session → Option Session) (m e : DeviceState) (due : Option ℕ) (uplinks : List Uplink)
     → Moves index F m e → Moves index F m (record e { last_due = due; outbox = uplinks })
 moves_keep index F m e due uplinks k = record { config = k.config; sessions = k.sessions }
 
@@ -274,7 +274,7 @@ Acts image cut t mark d e down =
 abbrev behind : (t word mark : ℕ) → Downlink → DeviceState → DeviceState
 behind t word mark down d = record (delivery t word mark down d).device { outbox = [] }
 
-lands : (index : ℕ) (F : DeviceConfig → Option Session → Option Session) (t word mark : ℕ) (down : Downlink) (d : DeviceState)
+lands : (index : ℕ) (F : Configuration → Option Session → Option Session) (t word mark : ℕ) (down : Downlink) (d : DeviceState)
     → Moves index F (comes_to t d) (heard_delivery t word mark down (comes_to t d)).device
     → Moves index F d (behind t word mark down d)
 unfolding delivery

@@ -19,7 +19,7 @@ use Rattle.package_grammar.specs.declared.command.Command.TheVariants.{Sync, Cas
 use Rattle.package_grammar.specs.declared.downlink.To.{To}
 use Rattle.package_grammar.specs.declared.downlink.Downlink.{Downlink}
 use Rattle.package_grammar.specs.Grammar.{row}
-use Rattle.device_core.specs.declared.config.DeviceConfig.{DeviceConfig}
+use Rattle.device_core.specs.Configuration.{Configuration}
 use Rattle.device_core.specs.SessionTable.{SessionTable, session_at}
 use Rattle.device_core.specs.Device.{DeviceState, room_of, limits_of}
 use Rattle.device_core.specs.ClassSessions.{hears}
@@ -54,11 +54,11 @@ abbrev pub NotYet : (brings : ℕ → Command → Type 0) → Command → ℕ �
 NotYet brings command last = (n : ℕ) → n ≤ last → brings n command → ⊥
 
 -- the device takes the setup
-abbrev Takes : List ℕ → Cut → DeviceConfig → Type 0
+abbrev Takes : List ℕ → Cut → Configuration → Type 0
 Takes image cut config = setup_bits (limits_of config) (room_of config) (setup_req image cut) ≡ 0
 
 -- without a session no setup was brought that the device takes; with one, it took the setup and heard all
-abbrev pub SessionHears : List ℕ → Cut → (brings : ℕ → Command → Type 0) → ℕ → DeviceConfig → Option Session → Type 0
+abbrev pub SessionHears : List ℕ → Cut → (brings : ℕ → Command → Type 0) → ℕ → Configuration → Option Session → Type 0
 SessionHears image cut brings last config None = Takes image cut config → NotYet brings (setup_request image cut) last
 SessionHears image cut brings last config (Some s) =
     Takes image cut config × HeardAll brings cut.index (setup_request image cut) last s.heard
@@ -92,7 +92,7 @@ heard_more brings index setup last heard more now kept before f n d later le w =
 
 -- a line that brings neither the setup nor a fragment
 session_more : (image : List ℕ) (cut : Cut) (brings : ℕ → Command → Type 0) (last : ℕ)
-    (config : DeviceConfig) (s : Option Session) → (brings (last + 1) (setup_request image cut) → ⊥)
+    (config : Configuration) (s : Option Session) → (brings (last + 1) (setup_request image cut) → ⊥)
     → ((f : Fragment) → f.mark ≡ last + 1 → brings f.mark (Cast (DataFragment cut.index f.number f.part)) → ⊥)
     → SessionHears image cut brings last config s → SessionHears image cut brings (last + 1) config s
 session_more image cut brings last config None no_setup no_fragment h =
@@ -105,7 +105,7 @@ session_more image cut brings last config (Some s) no_setup no_fragment h = (
 
 -- a line that brings nothing
 pub session_quiet : (image : List ℕ) (cut : Cut) (brings : ℕ → Command → Type 0) (last : ℕ)
-    (config : DeviceConfig) (s : Option Session) → ((c : Command) → brings (last + 1) c → ⊥)
+    (config : Configuration) (s : Option Session) → ((c : Command) → brings (last + 1) c → ⊥)
     → SessionHears image cut brings last config s → SessionHears image cut brings (last + 1) config s
 session_quiet image cut brings last config s none h =
     session_more image cut brings last config s (none (setup_request image cut))
@@ -212,7 +212,7 @@ stays_same limits s req is =
     ap (λ (b : Bool). cond b s (new_session limits req)) (ap (λ (r : SetupReq). same_setup r req) is ∙ same_self req)
 
 setup_taken : (image : List ℕ) (cut : Cut) (brings : ℕ → Command → Type 0) (last : ℕ)
-    (config : DeviceConfig) (s : Option Session) → Takes image cut config
+    (config : Configuration) (s : Option Session) → Takes image cut config
     → IfSome s (IsSetFor image cut) → ((f : Fragment) → f.mark ≡ last + 1 → brings f.mark (Cast (DataFragment cut.index f.number f.part)) → ⊥)
     → SessionHears image cut brings last config s
     → SessionHears image cut brings (last + 1) config (Some (renewed (limits_of config) s (setup_req image cut)))
@@ -234,7 +234,7 @@ setup_taken image cut brings last config (Some s) takes k no_fragment h =
     )
 
 setup_by : (image : List ℕ) (cut : Cut) (brings : ℕ → Command → Type 0) (last : ℕ)
-    (config : DeviceConfig) (s : Option Session) (b : Bool)
+    (config : Configuration) (s : Option Session) (b : Bool)
     → (setup_bits (limits_of config) (room_of config) (setup_req image cut) == 0) ≡ b
     → IfSome s (IsSetFor image cut) → ((f : Fragment) → f.mark ≡ last + 1 → brings f.mark (Cast (DataFragment cut.index f.number f.part)) → ⊥)
     → SessionHears image cut brings last config s
@@ -246,7 +246,7 @@ setup_by image cut brings last config None false is k no_fragment h = λ t. absu
 setup_by image cut brings last config (Some s) false is k no_fragment h = absurd (eqb-false _ _ is h.0)
 
 setup_hears : (image : List ℕ) (cut : Cut) (brings : ℕ → Command → Type 0) (last : ℕ)
-    (config : DeviceConfig) (s : Option Session)
+    (config : Configuration) (s : Option Session)
     → IfSome s (IsSetFor image cut) → ((f : Fragment) → f.mark ≡ last + 1 → brings f.mark (Cast (DataFragment cut.index f.number f.part)) → ⊥)
     → SessionHears image cut brings last config s
     → SessionHears image cut brings (last + 1) config (set_up image cut config s)
@@ -303,7 +303,7 @@ record IsBrought (cut : Cut) (way : Via) (n : ℕ) (part : List ℕ) (mark : ℕ
   same : f ≡ record { number = n; part = part; mark = mark }
   takes : excludes cut.mask way ≡ false
 
-kept_by : (image : List ℕ) (cut : Cut) (brings : ℕ → Command → Type 0) (last : ℕ) (config : DeviceConfig)
+kept_by : (image : List ℕ) (cut : Cut) (brings : ℕ → Command → Type 0) (last : ℕ) (config : Configuration)
     (s : Session) (way : Via) (n : ℕ) (part : List ℕ) (b : Bool) → excludes cut.mask way ≡ b
     → IsFragmentOf image cut.size (record { number = n; part = part; mark = last + 1 }) → IsSetFor image cut s
     → ((f : Fragment) → f.mark ≡ last + 1 → brings f.mark (Cast (DataFragment cut.index f.number f.part))
@@ -327,7 +327,7 @@ kept_by image cut brings last config s way n part false is f k one h =
           (λ g m. inr m) h.1,
     )
 
-nothing_heard : (image : List ℕ) (cut : Cut) (brings : ℕ → Command → Type 0) (last : ℕ) (config : DeviceConfig)
+nothing_heard : (image : List ℕ) (cut : Cut) (brings : ℕ → Command → Type 0) (last : ℕ) (config : Configuration)
     (way : Via) (n : ℕ) (part : List ℕ) → (brings (last + 1) (setup_request image cut) → ⊥)
     → SessionHears image cut brings last config None
     → SessionHears image cut brings (last + 1) config (after_fragment None way n part (last + 1))
@@ -336,7 +336,7 @@ nothing_heard image cut brings last config way n part no_setup h =
     λ t. not_yet_more brings (setup_request image cut) last no_setup (h t)
 
 fragment_hears : (image : List ℕ) (cut : Cut) (brings : ℕ → Command → Type 0) (last : ℕ)
-    (config : DeviceConfig) (s : Option Session) (way : Via) (n : ℕ) (part : List ℕ)
+    (config : Configuration) (s : Option Session) (way : Via) (n : ℕ) (part : List ℕ)
     → IsFragmentOf image cut.size (record { number = n; part = part; mark = last + 1 }) → IfSome s (IsSetFor image cut)
     → (brings (last + 1) (setup_request image cut) → ⊥)
     → ((f : Fragment) → f.mark ≡ last + 1 → brings f.mark (Cast (DataFragment cut.index f.number f.part))
@@ -366,11 +366,11 @@ no_fragment_there cut n part c (inr (inl o)) is =
 no_fragment_there cut n part c (inr (inr o)) is = let e : Cast (DataFragment cut.index n part) ≡ Sync o.0 = is ∙ o.1 in cc
 
 pub moved_hears : (image : List ℕ) (cut : Cut) (brings : ℕ → Command → Type 0) (last : ℕ)
-    (F : DeviceConfig → Option Session → Option Session) (d e : DeviceState) → Moves cut.index F d e
+    (F : Configuration → Option Session → Option Session) (d e : DeviceState) → Moves cut.index F d e
     → SessionHears image cut brings last d.config (F d.config (session_at d.sessions cut.index))
     → SessionHears image cut brings last e.config (session_at e.sessions cut.index)
 moved_hears image cut brings last F d e m h =
-    subst (λ (c : DeviceConfig). SessionHears image cut brings last c (session_at e.sessions cut.index)) (sym m.config)
+    subst (λ (c : Configuration). SessionHears image cut brings last c (session_at e.sessions cut.index)) (sym m.config)
     (subst (λ (o : Option Session). SessionHears image cut brings last d.config o)
     (sym (ap (λ (t : SessionTable). session_at t cut.index) m.sessions
     ∙ at_own d.sessions cut.index (F d.config (session_at d.sessions cut.index)))) h)
@@ -379,7 +379,7 @@ pub stayed_hears : (image : List ℕ) (cut : Cut) (brings : ℕ → Command → 
     → SessionHears image cut brings last d.config (session_at d.sessions cut.index)
     → SessionHears image cut brings last e.config (session_at e.sessions cut.index)
 stayed_hears image cut brings last d e m h =
-    subst (λ (c : DeviceConfig). SessionHears image cut brings last c (session_at e.sessions cut.index)) (sym m.config)
+    subst (λ (c : Configuration). SessionHears image cut brings last c (session_at e.sessions cut.index)) (sym m.config)
     (subst (λ (t : SessionTable). SessionHears image cut brings last d.config (session_at t cut.index)) (sym m.sessions) h)
 
 pub reached_hears : (image : List ℕ) (lines : List Line) (sent more : List SentPayload) (w v : WorldState)

@@ -1,7 +1,7 @@
 -- What holds of each campaign: its devices hear nothing but what the server sends.
 use Rattle.std.proofs.Common.{◌≡◌, ◌⊎◌, inl, inr, ℕ, ◌+◌, ◌-◌, ◌≤◌, Bool, true, false, List, [], ◌∷◌, ◌++◌, length, Option, Some, IfSome, refl, sym, ap, ◌∙◌, subst, arith}
 use Rattle.std.specs.List.{AllByRecursion, slice_set}
-use Rattle.device_core.specs.declared.config.DeviceConfig.{DeviceConfig}
+use Rattle.device_core.specs.Configuration.{Configuration}
 use Rattle.device_core.specs.Device.{DeviceState, first_device, max_rows}
 use Rattle.frag_session.specs.Session.{Session}
 use Rattle.campaign_laws.proofs.OwnSession.{none_at}
@@ -146,7 +146,7 @@ quiet_devices image cut old new k (inr s) =
     some_is (IsDeviceFor image cut) new s.e s.is
     (stays_for image cut s.d s.e (if_some (IsDeviceFor image cut) old s.d s.was k) s.moves s.empty)
 
-joined_devices : (image : List ℕ) (cut : Cut) (ds : List DeviceState) (config : DeviceConfig) → IsBounded config
+joined_devices : (image : List ℕ) (cut : Cut) (ds : List DeviceState) (config : Configuration) → IsBounded config
     → DevicesAre image cut ds → DevicesAre image cut (ds ++ first_device config ∷ [])
 joined_devices image cut ds config bounds k id = elim (numbered_push ds (first_device config) id) [
   | inl same ↦ subst (λ (o : Option DeviceState). IfSome o (IsDeviceFor image cut)) (sym same) (k id)
@@ -204,7 +204,7 @@ turn_keeps image said w v k turn = elim turn.how [
             (subst (DevicesAre image (cut_of w.server.plan)) (sym j.devices)
             (joined_devices image (cut_of w.server.plan) w.devices
             (config_of j.dev)
-            (record { sessions = refl; area = refl; rows = j.few; flash = refl }) k.devices));
+            (record { sessions = refl; area = refl; rows = j.few; flash = refl; size = refl }) k.devices));
       }
       | inr r ↦
           let its = if_some (IsDeviceFor image (cut_of w.server.plan)) (numbered w.devices r.id) r.old r.before

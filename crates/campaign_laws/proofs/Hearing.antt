@@ -73,7 +73,7 @@ no_bits image d made plain =
     let f : nat_le (64 * ((m + 63) / 64)) row_words ≡ true = (let small : (m + 63) / 64 ≤ 3 = omega (arith, h.high) in grind (arith, small)) in
     let g : nat_le (m * 64) max_area ≡ true = grind (arith, h.high) in
     let n : nat_le m max_pieces ≡ true = grind (arith, h.high) in
-    rw (plain.config.sessions, plain.config.rows, plain.config.descriptor, plain.config.area, plain.config.memory, a, b, c, e, f, g, n) refl
+    rw (plain.config.size, plain.config.sessions, plain.config.rows, plain.config.descriptor, plain.config.area, plain.config.memory, a, b, c, e, f, g, n) refl
 
 pub record IsNew (d : DeviceState) : Type 0 where
   pub plain : IsPlain d

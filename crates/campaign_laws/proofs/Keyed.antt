@@ -22,7 +22,7 @@ use Rattle.package_grammar.specs.Grammar.{canonical}
 use Rattle.package_grammar.specs.Reading.{reading_of}
 use Rattle.mc_group.specs.Groups.{group_at}
 use Rattle.mc_group.specs.declared.group.Group.{Group}
-use Rattle.device_core.specs.declared.config.DeviceConfig.{DeviceConfig}
+use Rattle.device_core.specs.Configuration.{Configuration}
 use Rattle.device_core.specs.Device.{DeviceState}
 use Rattle.campaign_server.specs.declared.plan.Kind.{Kind}
 use Rattle.campaign_server.specs.declared.plan.Kind.TheVariants as kind
@@ -65,14 +65,14 @@ pub record IsFit (plan : Plan) : Type 0 where
   pub window : IfSome plan.window (λ x. fits_bits x ≡ true)
 
 -- device n of the plan has these keys
-abbrev pub IsPlanned : Plan → (n : ℕ) → DeviceConfig → Type 0
+abbrev pub IsPlanned : Plan → (n : ℕ) → Configuration → Type 0
 IsPlanned plan n config = numbered plan.devices n ≡ Some (record { key = config.key; root = config.root })
 
 -- ---- what was sent
 
 -- to whichever device the payload comes, no other group is set up there
 abbrev pub SetsUpOwn : Plan → SentPayload → Type 0
-SetsUpOwn plan p = (id : ℕ) (config : DeviceConfig) → may_reach id (Some p) ≡ true → IsPlanned plan id config → IsBlock config.key
+SetsUpOwn plan p = (id : ℕ) (config : Configuration) → may_reach id (Some p) ≡ true → IsPlanned plan id config → IsBlock config.key
     → IsMildReading plan.group config (reading_of p.down.port Down p.down.payload)
 
 -- a count that frames are opened with
@@ -165,7 +165,7 @@ away_kept plan receiver x away = record {
 }
 
 -- the group's setup: the device that it reaches unwraps the plan's key
-group_mild : (g : PlanGroup) (config : DeviceConfig) → FitsGroup g → IsBlock config.key
+group_mild : (g : PlanGroup) (config : Configuration) → FitsGroup g → IsBlock config.key
     → IsMildReading (Some g) config
     (reading_of 200 Down (canonical (Cast (group_request (record { key = config.key; root = config.root }) g))))
 group_mild g config fits key =
@@ -216,7 +216,7 @@ first_part : (a b : Bool) → (a && b) ≡ true → a ≡ true
 first_part true b is = refl
 first_part false b is = absurd cc
 
-window_mild : (own : Option PlanGroup) (config : DeviceConfig) (id start timeout freq dr : ℕ) (k : Kind) → id ≤ 3
+window_mild : (own : Option PlanGroup) (config : Configuration) (id start timeout freq dr : ℕ) (k : Kind) → id ≤ 3
     → fits_bits (record { kind = k; start = start; timeout = timeout; freq = freq; dr = dr }) ≡ true
     → IsMildReading own config (reading_of 200 Down (canonical (Cast
     (window_request id (record { kind = k; start = start; timeout = timeout; freq = freq; dr = dr })))))

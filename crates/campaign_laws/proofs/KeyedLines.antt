@@ -7,7 +7,7 @@ use Rattle.std.specs.Result.{result_ok}
 use Rattle.wire_base.specs.Numbered.{numbered}
 use Rattle.aes_block.specs.Cipher.{IsBlock}
 use Rattle.mc_group.specs.Groups.{group_at}
-use Rattle.device_core.specs.declared.config.DeviceConfig.{DeviceConfig}
+use Rattle.device_core.specs.Configuration.{Configuration}
 use Rattle.device_core.specs.Device.{DeviceState, first_device}
 use Rattle.device_core.specs.Events.{Event, Wakes, Receives, Migrates, event_step, after_event}
 use Rattle.device_core.proofs.HeardSessions.{event_config}
@@ -78,7 +78,7 @@ plan_keyed w plan next here fit devices k = record {
 }
 
 -- one device more
-none_at_first : (config : DeviceConfig) (i : ℕ) → group_at (first_device config).groups i ≡ None
+none_at_first : (config : Configuration) (i : ℕ) → group_at (first_device config).groups i ≡ None
 none_at_first config i = all_none config.groups i
   where
     all_none : (n i : ℕ) → group_at (replicate n None) i ≡ None
@@ -86,7 +86,7 @@ none_at_first config i = all_none config.groups i
     all_none (suc n) zero = refl
     all_none (suc n) (suc i) = all_none n i
 
-joined_keyed : (w : WorldState) (config : DeviceConfig) → is_planning w.section ≡ true → IsBlock config.key → Keyed w.lines w
+joined_keyed : (w : WorldState) (config : Configuration) → is_planning w.section ≡ true → IsBlock config.key → Keyed w.lines w
     → IsKeyed (w.lines + 1) section.Devices
     (first_server w.server.image
     (record w.server.plan { devices = w.server.plan.devices ++ record { key = config.key; root = config.root } ∷ [] }))
@@ -170,7 +170,7 @@ device_keyed w n d e first there own k = record {
         let its = k.planned n d there in
         subst (λ (y : DeviceState). IsPlanned w.server.plan id y.config × IsBlock y.config.key) (put id x same is)
         (subst (λ (i : ℕ). IsPlanned w.server.plan i (after_event d e).config × IsBlock (after_event d e).config.key) (sym same)
-        (subst (λ (c : DeviceConfig). IsPlanned w.server.plan n c × IsBlock c.key) (sym (event_config d e)) its))
+        (subst (λ (c : Configuration). IsPlanned w.server.plan n c × IsBlock c.key) (sym (event_config d e)) its))
     | inr other ↦ k.planned id x (sym other ∙ is)
   ];
   kept = k.kept;

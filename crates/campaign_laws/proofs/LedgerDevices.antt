@@ -25,7 +25,7 @@ use Rattle.package_grammar.specs.declared.command.Command.TheVariants.{Sync, Cas
 use Rattle.package_grammar.specs.declared.downlink.Downlink.{Downlink}
 use Rattle.package_grammar.specs.Grammar.{row, canonical, IsValid}
 use Rattle.package_grammar.specs.Reading.{Reading, reading_of}
-use Rattle.device_core.specs.declared.config.DeviceConfig.{DeviceConfig}
+use Rattle.device_core.specs.Configuration.{Configuration}
 use Rattle.device_core.specs.declared.arrival.Arrival.{Arrival}
 use Rattle.device_core.specs.declared.uplink.Uplink.{Uplink}
 use Rattle.device_core.specs.declared.uplink.Answer.{Answer}
@@ -79,7 +79,7 @@ made_goes : (image : List ℕ) (cut : Cut) (d e : DeviceState) → IsSound image
     → Goes image cut d e
 made_goes image cut d e k m = record {
   sound = record {
-    hardware = subst (λ (x : DeviceConfig). x.hw < 2 ^ 32) (sym m.config) k.hardware;
+    hardware = subst (λ (x : Configuration). x.hw < 2 ^ 32) (sym m.config) k.hardware;
     session = m.session;
     slots = m.slots.has;
     outbox = subst (AllByRecursion (TellsTruly image (IsRunning image e.slots))) (sym m.outbox)
@@ -590,7 +590,7 @@ taken_goes image cut d e goes = record {
 }
 
 -- a device at its start
-pub first_sound : (image : List ℕ) (cut : Cut) (config : DeviceConfig) → config.hw < 2 ^ 32
+pub first_sound : (image : List ℕ) (cut : Cut) (config : Configuration) → config.hw < 2 ^ 32
     → IsSound image cut (first_device config)
 first_sound image cut config small = record {
   hardware = small;

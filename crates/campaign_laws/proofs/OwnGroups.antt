@@ -16,7 +16,7 @@ use Rattle.package_grammar.proofs.ReadingLaw.{reads, read_as}
 use Rattle.package_grammar.proofs.Written.{message_of}
 use Rattle.mc_group.specs.declared.group.Group.{Group}
 use Rattle.mc_group.specs.Groups.{group_at, group_of}
-use Rattle.device_core.specs.declared.config.DeviceConfig.{DeviceConfig}
+use Rattle.device_core.specs.Configuration.{Configuration}
 use Rattle.device_core.specs.declared.arrival.Arrival.{Arrival}
 use Rattle.device_core.specs.declared.delivered.Delivered.{Delivered}
 use Rattle.device_core.specs.declared.delivered.Delivered.TheVariants.{Deaf, OutboxFull, Done}
@@ -77,7 +77,7 @@ device_either own false one other k l = l
 -- ---- commands
 
 -- any command but a setup of another group
-abbrev pub IsMild : Option PlanGroup → DeviceConfig → Command → Type 0
+abbrev pub IsMild : Option PlanGroup → Configuration → Command → Type 0
 IsMild own config (Cast (c.McGroupSetupReq id addr key min max)) = IsOwn own (group_of config.key config.root addr key min max)
 IsMild own config x = Unit {0}
 
@@ -116,7 +116,7 @@ abbrev pub IsNoSetup : Command → Type 0
 IsNoSetup (Cast (c.McGroupSetupReq id addr key min max)) = ⊥
 IsNoSetup x = Unit {0}
 
-no_setup_mild : (own : Option PlanGroup) (config : DeviceConfig) (x : Command) → IsNoSetup x → IsMild own config x
+no_setup_mild : (own : Option PlanGroup) (config : Configuration) (x : Command) → IsNoSetup x → IsMild own config x
 no_setup_mild own config (Cast (c.McGroupSetupReq id addr key min max)) none = absurd none
 no_setup_mild own config x none = tt
 
@@ -136,7 +136,7 @@ room_own own m e n true k l = k
 room_own own m e n false k l = l
 
 -- what is read of a payload
-abbrev pub IsMildReading : Option PlanGroup → DeviceConfig → Reading → Type 0
+abbrev pub IsMildReading : Option PlanGroup → Configuration → Reading → Type 0
 IsMildReading own config (Ok []) = Unit {0}
 IsMildReading own config (Ok (x ∷ [])) = IsMild own config x
 IsMildReading own config (Ok xs) = AllByRecursion IsNoSetup xs
@@ -180,7 +180,7 @@ delivery_own own t word mark down d mild h =
     let r : Reading = reading_of down.port Down down.payload in
     let before : HasOwn own m.groups = subst (HasOwn own) (sym (reboot_groups t d)) h in
     let read = read_own own (arrival t word mark down m) m r
-    (subst (λ (x : DeviceConfig). IsMildReading own x r) (sym (reboot_config t d)) mild) before in
+    (subst (λ (x : Configuration). IsMildReading own x r) (sym (reboot_config t d)) mild) before in
     subst (HasOwn own) (sym (reboot_groups t (heard_delivery t word mark down m).device))
     (heard_either own m (hears m t down.to) (read_delivery (arrival t word mark down m) m r) before read)
 
@@ -223,25 +223,25 @@ all_away (Sync x ∷ xs) port bytes from end away all = (tt, all_away xs port by
 all_away (Cast x ∷ xs) port bytes from end away all =
     (away_cast x port away all.1.listed, all_away xs port bytes all.0 end away all.2)
 
-mild_all : (own : Option PlanGroup) (config : DeviceConfig) (xs : List Command) → AllByRecursion IsNoSetup xs
+mild_all : (own : Option PlanGroup) (config : Configuration) (xs : List Command) → AllByRecursion IsNoSetup xs
     → IsMildReading own config (Ok xs)
 mild_all own config [] all = tt
 mild_all own config (x ∷ []) all = no_setup_mild own config x all.0
 mild_all own config (x ∷ y ∷ xs) all = all
 
-away_by : (own : Option PlanGroup) (config : DeviceConfig) (port : ℕ) (payload : List ℕ) (r : Reading) → IsAway port
+away_by : (own : Option PlanGroup) (config : Configuration) (port : ℕ) (payload : List ℕ) (r : Reading) → IsAway port
     → IsReading port Down payload r → IsMildReading own config r
 away_by own config port payload (Ok xs) away message =
     mild_all own config xs (all_away xs port payload 0 (length payload) away message.all)
 away_by own config port payload (Err refusal) away stop = tt
 
-pub away_mild : (own : Option PlanGroup) (config : DeviceConfig) (port : ℕ) (payload : List ℕ) → IsAway port
+pub away_mild : (own : Option PlanGroup) (config : Configuration) (port : ℕ) (payload : List ℕ) → IsAway port
     → IsMildReading own config (reading_of port Down payload)
 away_mild own config port payload away = away_by own config port payload (reading_of port Down payload) away (reads port Down payload)
 
 -- ---- and of a single command on the port of groups
 
-pub single_mild : (own : Option PlanGroup) (config : DeviceConfig) (x : Command) → IsValid x → IsListed (row x) 200 Down
+pub single_mild : (own : Option PlanGroup) (config : Configuration) (x : Command) → IsValid x → IsListed (row x) 200 Down
     → IsMild own config x → IsMildReading own config (reading_of 200 Down (canonical x))
 single_mild own config x valid listed mild =
     subst (IsMildReading own config) (sym (read_as 200 Down (canonical x) (Ok (x ∷ [])) (message_of x 200 Down valid listed))) mild

@@ -242,7 +242,7 @@ device_to image k g w few j =
           numbered_last w.devices new n (grind (arith, is, j.count)),
           record {
             plain = record {
-              config = record { class = refl; hw = refl; rows = refl; descriptor = refl; sessions = refl; area = refl; memory = refl };
+              config = record { class = refl; hw = refl; rows = refl; descriptor = refl; sessions = refl; area = refl; memory = refl; size = refl };
               reboot = refl;
               outbox = refl;
             };

@@ -18,9 +18,9 @@ use Rattle.package_grammar.specs.declared.downlink.To.{To}
 use Rattle.package_grammar.specs.Grammar.{IsValid}
 use Rattle.device_core.specs.declared.config.Class.{Class as DeviceClass}
 use Rattle.device_core.specs.declared.config.Class.TheVariants as device_class
-use Rattle.device_core.specs.declared.config.DeviceConfig.{DeviceConfig}
+use Rattle.device_core.specs.Configuration.{Configuration}
 use Rattle.device_core.specs.SessionTable.{SessionTable, session_at}
-use Rattle.device_core.specs.Device.{DeviceState, max_area}
+use Rattle.device_core.specs.Device.{DeviceState, max_area, large_size}
 use Rattle.campaign_world.specs.Making.{formats_of, root_of, span_of}
 use Rattle.device_core.specs.ClassSessions.{hears}
 use Rattle.device_core.specs.Firmware.{after_due_reboot}
@@ -62,7 +62,7 @@ IsClass class.A k = k ≡ device_class.A
 IsClass class.C k = k ≡ device_class.C
 
 -- line n of the script is the line of device id, which says this configuration
-pub record IsConfigured (lines : List Line) (id : ℕ) (config : DeviceConfig) (n : ℕ) (line : Line) (dev : DeviceLine) : Type 0 where
+pub record IsConfigured (lines : List Line) (id : ℕ) (config : Configuration) (n : ℕ) (line : Line) (dev : DeviceLine) : Type 0 where
   pub line_is : numbered lines n ≡ Some line
   pub says : line ≡ Ok (Own (Device dev))
   pub its_id : dev.id ≡ id
@@ -79,13 +79,13 @@ pub record IsConfigured (lines : List Line) (id : ℕ) (config : DeviceConfig) (
   pub area_is : config.area ≡ max_area
   pub held_is : config.held ≡ dev.flash
   pub span_is : config.span ≡ span_of dev.flash
+  pub size_is : config.size ≡ large_size
 
 -- the configuration is that of the device's line
-abbrev pub IsOfItsLine : List Line → (id : ℕ) → DeviceConfig → Type 0
+abbrev pub IsOfItsLine : List Line → (id : ℕ) → Configuration → Type 0
 IsOfItsLine lines id config = (n : ℕ) × (line : Line) × (dev : DeviceLine) × IsConfigured lines id config n line dev
 
--- the session is the one that the server sets up for the image on a device with so many rows, and hears nothing but the
--- image's fragments
+-- the session is the server's for the image, on a device with so many rows, and hears the image's fragments alone
 pub record IsServed (image : List ℕ) (server : ServerState) (rows : ℕ) (session : Session) : Type 0 where
   pub image_is : server.image ≡ image
   pub nb_frag : session.setup.nb_frag ≡ nb_frag_of (length image) server.plan.frag_size
@@ -113,8 +113,7 @@ Delivers lines sent id n down = (line : Line) × (number : ℕ) × (word : ℕ) 
 abbrev pub campaign_before : (image : List ℕ) → (lines : List Line) → (n : ℕ) → Result WorldState LineFault
 campaign_before image lines n = read_lines (Ok (first_world image)) (take (n - 1) lines)
 
--- what comes this way to device id at line n, after a reboot that is due, is heard: its receiver is open, and the server's
--- session accepts what comes by that group. A device of class C always hears unicast
+-- what comes this way to device id at line n, after a due reboot, is heard: it listens, and the session accepts the group
 pub record Listens (image : List ℕ) (lines : List Line) (id n : ℕ) (to : To) (world : WorldState) (device : DeviceState) : Type 0 where
   pub before : campaign_before image lines n ≡ Ok world
   pub there : numbered world.devices id ≡ Some device

@@ -4,7 +4,7 @@ use Rattle.report_lines.specs.Devices.{◌⧺◌, standing_of, standing_line, co
 use Rattle.device_core.specs.Device.{DeviceState, first_device}
 use Rattle.flash_session.specs.Flashes.{Cells}
 use Rattle.device_core.specs.HeldDevice.{HeldDevice}
-use Rattle.device_core.specs.declared.config.DeviceConfig.{DeviceConfig}
+use Rattle.device_core.specs.Configuration.{Configuration}
 use Rattle.device_core.proofs.Outboxes.{outbox_is}
 use Rattle.frag_session.specs.Session.{view_of}
 use Rattle.campaign_server.specs.declared.stage.Stage.{Stage}
@@ -39,7 +39,7 @@ first_happens late new made there after id uplinks more none here rests happens 
     }
 
 -- its outbox is empty
-empty_by : (config : DeviceConfig) (device : Option (HeldDevice Cells)) (d : DeviceState) → RestsBy config device d → d.outbox ≡ []
+empty_by : (config : Configuration) (device : Option (HeldDevice Cells)) (d : DeviceState) → RestsBy config device d → d.outbox ≡ []
 empty_by config None d is = ap (λ (x : DeviceState). x.outbox) is
 empty_by config (Some held) d rests = outbox_is held d rests.stands ∙ rests.empty
 

@@ -6,13 +6,13 @@ use Rattle.flash_session.specs.declared.fault.OpenFault.TheVariants as fault
 use Rattle.flash_session.specs.Contents.{byte_at, Same, Follows, HasRisen}
 use Rattle.flash_session.specs.Flashes.{Cells, cells_seen}
 use Rattle.flash_session.specs.Seen.{FlashSeen}
-use Rattle.session_store.specs.declared.held_slots.Layout.{Layout}
+use Rattle.session_store.specs.Size.{SizedLayout}
 use Rattle.session_store.specs.declared.state.State.{State}
 use Rattle.session_store.specs.declared.state.State.TheVariants.{Memory, Flash, Down}
 use Rattle.session_store.specs.declared.state.CompleteFlags.{CompleteFlags}
 use Rattle.session_store.specs.HeldPlaces.{TableLies}
 use Rattle.session_store.specs.CompleteFlags.{none_complete, flags_of}
-use Rattle.device_core.specs.declared.config.DeviceConfig.{DeviceConfig}
+use Rattle.device_core.specs.Configuration.{Configuration}
 use Rattle.device_core.specs.Device.{DeviceState, first_device}
 use Rattle.device_core.specs.HeldPower.{HadWhole}
 use Rattle.device_core.specs.HeldDevice.{HeldDevice, device_of, DeviceStands, Starts}
@@ -33,7 +33,7 @@ zeros (suc n) (suc i) = zeros n i
 blank_at : (n : ℕ) (b : List ℕ) (base : ℕ) → Same (replicate n 0) b → byte_at b base ≡ 0xa5 → ⊥
 blank_at n b base same is = let none : byte_at b base ≡ 0 = same.all base ∙ zeros n base in omega (arith, none, is)
 
-pub nothing_lies : (l : Layout) (n : ℕ) (b : List ℕ) → Same (replicate n 0) b → TableLies l no_sessions b
+pub nothing_lies : (l : SizedLayout) (n : ℕ) (b : List ℕ) → Same (replicate n 0) b → TableLies l no_sessions b
 nothing_lies l n b same = record {
   first = blank_at n b 0 same;
   second = blank_at n b l.span same;
@@ -48,7 +48,7 @@ stored_memory (Flash slots) t flash not = absurd (not tt)
 stored_memory (Down idles whole) t flash not = absurd (not tt)
 
 -- a device that is not held is up from its start
-pub memory_rests : (config : DeviceConfig) (flash : Cells) (held : HeldDevice Cells) → Starts config flash held → held.sessions.held ≡ false
+pub memory_rests : (config : Configuration) (flash : Cells) (held : HeldDevice Cells) → Starts config flash held → held.sessions.held ≡ false
     → (IsInFlash held.sessions.state → ⊥) → IsAtRest held (first_device config)
 memory_rests config flash held starts memory not =
     let stands = starts.up (sym starts.held_is ∙ memory) in record {
@@ -69,12 +69,12 @@ none_are_whole : flags_of no_sessions ≡ none_complete
 unfolding view_of
 none_are_whole = refl
 
-first_quiet : (config : DeviceConfig) → after_power none_complete no_sessions (first_device config) ≡ first_device config
+first_quiet : (config : Configuration) → after_power none_complete no_sessions (first_device config) ≡ first_device config
 first_quiet config =
     ap (λ (w : CompleteFlags). after_power w no_sessions (first_device config)) (sym none_are_whole) ∙ power_is_quiet (first_device config)
 
 -- for the first time
-pub first_rests : (config : DeviceConfig) (n : ℕ) (old new : HeldDevice Cells) (r : Result (Unit {0}) OpenFault) → Starts config old.sessions.flash old
+pub first_rests : (config : Configuration) (n : ℕ) (old new : HeldDevice Cells) (r : Result (Unit {0}) OpenFault) → Starts config old.sessions.flash old
     → old.sessions.flash.bytes ≡ replicate n 0 → old.sessions.held ≡ true
     → ((whole : CompleteFlags) → HadWhole old.sessions.state whole → (table : SessionTable) (b : List ℕ) → b ≡ new.sessions.flash.bytes
     → TableLies old.sessions.layout table b

@@ -6,7 +6,7 @@ use Rattle.std.specs.declared.alloc.AllocError.{AllocError}
 use Rattle.device_core.specs.Device.{DeviceState, first_device}
 use Rattle.device_core.specs.declared.uplink.Uplink.{Uplink}
 use Rattle.device_core.specs.Events.{Event, Receives, HearsBytes, event_step, uplinks_taken}
-use Rattle.device_core.specs.declared.config.DeviceConfig.{DeviceConfig}
+use Rattle.device_core.specs.Configuration.{Configuration}
 use Rattle.campaign_server.specs.Plan.{Plan}
 use Rattle.campaign_server.specs.Server.{ServerState, first_server, ledger}
 use Rattle.wire_base.specs.Numbered.{numbered}
@@ -215,12 +215,12 @@ Planned image plan devices flash =
     record { time = 0; server = first_server image plan; devices = devices; flash = flash; sent = []; uplinks = [] }
 
 -- the plan with one device more
-abbrev planned_more : Plan → DeviceConfig → Plan
+abbrev planned_more : Plan → Configuration → Plan
 planned_more plan config = record plan { devices = plan.devices ++ record { key = config.key; root = config.root } ∷ [] }
 
 join_held : (lines : ℕ) (here : Section) (kept : Option LineError) (image : List ℕ) (plan new_plan : Plan)
     (devices new_devices : List Late) (ids new_ids : List ℕ) (id : ℕ)
-    (ds : List DeviceState) (config : DeviceConfig) (device : Late) → DevicesRest devices ds → new_plan ≡ planned_more plan config
+    (ds : List DeviceState) (config : Configuration) (device : Late) → DevicesRest devices ds → new_plan ≡ planned_more plan config
     → new_devices ≡ devices ++ device ∷ [] → new_ids ≡ with_flash ids id config.held → DeviceRests device (first_device config)
     → WorldStands (held_with lines section.Devices kept (Planned image new_plan new_devices new_ids))
     (with_joined (world_of (held_with lines here kept (Planned image plan devices ids)) ds) id config)
@@ -231,7 +231,7 @@ join_held lines here kept image plan new_plan devices new_devices ids new_ids id
 
 pub join_step : (lines : ℕ) (here : Section) (kept : Option LineError) (image : List ℕ) (plan new_plan : Plan)
     (devices new_devices : List Late) (ids new_ids : List ℕ) (id : ℕ)
-    (world : WorldState) (config : DeviceConfig) (device : Late)
+    (world : WorldState) (config : Configuration) (device : Late)
     → WorldStands (held_with lines here kept (Planned image plan devices ids)) world → new_plan ≡ planned_more plan config
     → new_devices ≡ devices ++ device ∷ [] → new_ids ≡ with_flash ids id config.held → DeviceRests device (first_device config)
     → WorldStands (held_with lines section.Devices kept (Planned image new_plan new_devices new_ids))

@@ -5,15 +5,15 @@ use Rattle.flash_session.specs.Flashes.{Cells, cells_seen}
 use Rattle.flash_session.specs.Layout.{records_place}
 use Rattle.device_core.specs.HeldDevice.{HeldDevice, DeviceStands}
 use Rattle.device_core.specs.HeldSessions.{StateIsStored}
-use Rattle.device_core.specs.declared.config.DeviceConfig.{DeviceConfig}
+use Rattle.device_core.specs.Configuration.{Configuration}
 
 -- its configuration, and what it holds from its first event on
 pub record Late : Type 0 where
-  pub config : DeviceConfig
+  pub config : Configuration
   pub device : Option (HeldDevice Cells)
 
 -- sessions that are held in flash have ranges there
-abbrev pub HasSpan : DeviceConfig → Type 0
+abbrev pub HasSpan : Configuration → Type 0
 HasSpan config = config.held ≡ true → (records_place ≤ config.span) × (config.span < 2 ^ 30)
 
 -- its sessions are in its cells, if they are held there
@@ -28,7 +28,7 @@ pub record IsAtRest (held : HeldDevice Cells) (device : DeviceState) : Type 0 wh
   pub empty : held.outbox ≡ []
 
 -- before its first event it stands for the first record of its configuration
-abbrev pub RestsBy : DeviceConfig → Option (HeldDevice Cells) → DeviceState → Type 0
+abbrev pub RestsBy : Configuration → Option (HeldDevice Cells) → DeviceState → Type 0
 RestsBy config None device = device ≡ first_device config
 RestsBy config (Some held) device = IsAtRest held device
 

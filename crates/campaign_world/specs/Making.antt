@@ -8,9 +8,9 @@ use Rattle.mc_keys.specs.declared.root_kind.RootKind.{RootKind}
 use Rattle.mc_keys.specs.declared.root_kind.RootKind.TheVariants.{V10, V11}
 use Rattle.device_core.specs.declared.config.Class.{Class as DeviceClass}
 use Rattle.device_core.specs.declared.config.Class.TheVariants as device_class
-use Rattle.device_core.specs.declared.config.DeviceConfig.{DeviceConfig}
+use Rattle.device_core.specs.Configuration.{Configuration}
 use Rattle.device_core.specs.declared.uplink.Uplink.{Uplink}
-use Rattle.device_core.specs.Device.{DeviceState, first_device, max_area}
+use Rattle.device_core.specs.Device.{DeviceState, first_device, max_area, large_size}
 use Rattle.device_core.specs.Events.{Event, Wakes, Receives, HearsBytes, Migrates, event_step, uplinks_taken}
 use Rattle.campaign_server.specs.Framing.{has_frame, frame_for}
 use Rattle.campaign_server.specs.declared.plan.PlanGroup.{PlanGroup}
@@ -66,7 +66,7 @@ abbrev pub span_of : (held : Bool) → ℕ
 span_of held = if held then flash_span else 0
 
 -- a device has 4 sessions, 4 groups, and an area for the largest file
-abbrev pub config_of : DeviceLine → DeviceConfig
+abbrev pub config_of : DeviceLine → Configuration
 config_of dev = record {
   class = class_of dev.class;
   hw = dev.hw;
@@ -81,6 +81,7 @@ config_of dev = record {
   area = max_area;
   held = dev.flash;
   span = span_of dev.flash;
+  size = large_size;
 }
 
 abbrev pub device_of : DeviceLine → DeviceState
@@ -91,7 +92,7 @@ abbrev pub with_flash : (ids : List ℕ) → (id : ℕ) → (flash : Bool) → L
 with_flash ids id flash = if flash then ids ++ id ∷ [] else ids
 
 -- one device more, the last line of the plan so far
-abbrev pub with_joined : WorldState → (id : ℕ) → DeviceConfig → WorldState
+abbrev pub with_joined : WorldState → (id : ℕ) → Configuration → WorldState
 with_joined world id config =
     let plan = record world.server.plan {
       devices = world.server.plan.devices ++ record { key = config.key; root = config.root } ∷ [];

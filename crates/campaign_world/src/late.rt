@@ -3,7 +3,7 @@
 ghost use Rattle.std.specs.Prelude.{◌≡◌, ℕ, true, None, IfOk, option_map, replicate};
 ghost use Rattle.device_core.specs.Device.{first_device, is_config};
 ghost use Rattle.device_core.specs.HeldDevice.{Starts};
-ghost use Rattle.device_core.specs.declared.config.DeviceConfig.{DeviceConfig};
+ghost use Rattle.device_core.specs.Configuration.{Configuration, at_full_size};
 ghost use Rattle.campaign_world.specs.HeldLate.{HasSpan, IsAtRest};
 
 use device_core::{Device, DeviceConfig, ReserveError};
@@ -22,23 +22,28 @@ pub struct LateDevice {
 
 impl Model for LateDevice {
     ghost use Rattle.std.specs.Prelude.{◌≡◌, true};
+    ghost use Rattle.device_core.specs.Configuration.{at_full_size};
     ghost use Rattle.device_core.specs.Device.{is_config};
     ghost use Rattle.std.specs.Prelude.{option_map};
     ghost use Rattle.campaign_world.specs.HeldLate.{Late, HasSpan};
 
     ghost Value = { Late };
 
-    ghost view = { λ d. record { config = d.config; device = option_map (λ device. device.value) d.device } };
+    ghost view = { λ d. record {
+      config = at_full_size d.config;
+      device = option_map (λ device. device.value) d.device;
+    } };
 
-    ghost invariant = { λ d. (is_config d.config ≡ true) × HasSpan d.config };
+    ghost invariant = { λ d.
+        (is_config (at_full_size d.config) ≡ true) × HasSpan (at_full_size d.config) };
 }
 
 impl LateDevice {
     /// Makes a device without an event.
     pub fn new(config: DeviceConfig) -> Self
-        requires fine { is_config config ≡ true }
-        requires span { HasSpan config }
-        ensures { result ≡ record { config = config; device = None } }
+        requires fine { is_config (at_full_size config) ≡ true }
+        requires span { HasSpan (at_full_size config) }
+        ensures { result ≡ record { config = at_full_size config; device = None } }
     {
         LateDevice {
             config,
@@ -58,7 +63,7 @@ impl LateDevice {
 
     /// Returns its configuration.
     pub fn config(&self) -> DeviceConfig
-        ensures { result ≡ self.now.config }
+        ensures { at_full_size result ≡ self.now.config }
     {
         self.config
     }
@@ -68,9 +73,10 @@ impl LateDevice {
 /// a whole device.
 #[inline(never)]
 pub fn created(alloc: Global, config: DeviceConfig) -> Result<Box<Device<CellFlash>>, AllocError>
-    requires fine { is_config config ≡ true }
-    requires span { HasSpan config }
-    ensures { IfOk result (λ device. IsAtRest device.value (first_device config)) }
+    requires fine { is_config (at_full_size config) ≡ true }
+    requires span { HasSpan (at_full_size config) }
+    ensures { IfOk result
+        (λ device. IsAtRest device.value (first_device (at_full_size config))) }
 {
     let size = if config.held { 4 * config.span } else { 0 };
     let flash = CellFlash::reserve(alloc, size)?;
@@ -91,7 +97,7 @@ pub fn created(alloc: Global, config: DeviceConfig) -> Result<Box<Device<CellFla
 
 /// Power comes to a device for the first time, over cells that hold nothing. A device only in memory is up without it.
 fn start(device: &mut Device<CellFlash>)
-    ensures { (config : DeviceConfig) (n : ℕ) → Starts config device.old.sessions.flash device.old
+    ensures { (config : Configuration) (n : ℕ) → Starts config device.old.sessions.flash device.old
         → device.old.sessions.flash.bytes ≡ replicate n 0
         → IsAtRest device.new (first_device config) }
 {

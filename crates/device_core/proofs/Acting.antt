@@ -16,7 +16,7 @@ use Rattle.device_core.specs.declared.delivered.Delivered.{Delivered}
 use Rattle.device_core.specs.declared.delivered.Delivered.TheVariants.{Done}
 use Rattle.device_core.specs.Deliver.{message_delivery}
 use Rattle.flash_session.specs.Seen.{FlashSeen}
-use Rattle.session_store.specs.declared.held_slots.Layout.{Layout}
+use Rattle.session_store.specs.Size.{SizedLayout}
 use Rattle.session_store.specs.declared.store.FlashFault.{FlashFault}
 use Rattle.session_store.specs.declared.state.State.TheVariants.{Down}
 use Rattle.session_store.specs.CompleteFlags.{flags_of}
@@ -141,14 +141,14 @@ acted_none seen here held device all stands = record {
 }
 
 -- what a command passes, among all
-some_of : (here : Arrival) (l m : Layout) (now : DeviceState) (c : Command) (cs : List Command) (b : List ℕ) → m ≡ l
+some_of : (here : Arrival) (l m : SizedLayout) (now : DeviceState) (c : Command) (cs : List Command) (b : List ℕ) → m ≡ l
     → LiesOneOf m (step_tables here now c) b → LiesOneOf l (tables_of here now (c ∷ cs)) b
 unfolding tables_of
 some_of here l m now c cs b same lies =
     lies_left l (step_tables here now c) (tables_of here (after_answers (step here now c)) cs) b
-    (subst (λ (k : Layout). LiesOneOf k (step_tables here now c) b) same lies)
+    (subst (λ (k : SizedLayout). LiesOneOf k (step_tables here now c) b) same lies)
 
-rest_of : (here : Arrival) (l : Layout) (now : DeviceState) (c : Command) (cs : List Command) (b : List ℕ)
+rest_of : (here : Arrival) (l : SizedLayout) (now : DeviceState) (c : Command) (cs : List Command) (b : List ℕ)
     → LiesOneOf l (tables_of here (after_answers (step here now c)) cs) b → LiesOneOf l (tables_of here now (c ∷ cs)) b
 unfolding tables_of
 rest_of here l now c cs b lies = lies_right l (step_tables here now c) (tables_of here (after_answers (step here now c)) cs) b lies

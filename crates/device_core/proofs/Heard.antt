@@ -3,12 +3,12 @@ use Rattle.std.proofs.Common.{◌≡◌, ℕ, ◌+◌, ◌≤◌, Bool, true, fa
 use Rattle.std.specs.Prelude.{is_none, is_some, not}
 use Rattle.frag_session.specs.Setup.{setup_bits}
 use Rattle.frag_session.specs.declared.setups.SetupReq.{SetupReq}
-use Rattle.session_store.specs.declared.held_slots.Layout.{Layout}
+use Rattle.session_store.specs.Size.{SizedLayout}
 use Rattle.cast_wire.specs.SetupRefusal.{setup_answer}
 use Rattle.cast_wire.specs.declared.cmd.Cmd.TheVariants.{FragSessionDeleteAns}
 use Rattle.package_grammar.specs.declared.command.Command.{Command}
 use Rattle.package_grammar.specs.declared.command.Command.TheVariants.{Cast}
-use Rattle.device_core.specs.declared.config.DeviceConfig.{DeviceConfig}
+use Rattle.device_core.specs.Configuration.{Configuration}
 use Rattle.device_core.specs.declared.uplink.Uplink.{Uplink}
 use Rattle.frag_session.specs.declared.answers.Cause.{Cause}
 use Rattle.frag_session.specs.declared.answers.Heard.TheVariants as answer
@@ -88,16 +88,16 @@ dropped_steps here old new index n part cause is dropped = rw is (record {
 -- ---- a setup and a deletion
 
 -- with the limits and the room of the configuration
-pub setup_bits_are : (l : Layout) (held : Bool) (config : DeviceConfig) (req : SetupReq) → l ≡ layout_of config → held ≡ config.held
+pub setup_bits_are : (l : SizedLayout) (held : Bool) (config : Configuration) (req : SetupReq) → l ≡ layout_of config → held ≡ config.held
     → setup_bits l.limits (store_room l held) req ≡ setup_bits (limits_of config) (room_of config) req
 setup_bits_are l held config req laid is =
-    ap (λ (k : Layout). setup_bits k.limits (store_room k held) req) laid
+    ap (λ (k : SizedLayout). setup_bits k.limits (store_room k held) req) laid
     ∙ ap (λ (b : Bool). setup_bits (limits_of config) (store_room (layout_of config) b) req) is
 
-pub setup_table_is : (l : Layout) (held : Bool) (config : DeviceConfig) (req : SetupReq) (t : SessionTable) → l ≡ layout_of config → held ≡ config.held
+pub setup_table_is : (l : SizedLayout) (held : Bool) (config : Configuration) (req : SetupReq) (t : SessionTable) → l ≡ layout_of config → held ≡ config.held
     → table_after_setup l.limits (store_room l held) req t ≡ table_after_setup (limits_of config) (room_of config) req t
 setup_table_is l held config req t laid is =
-    ap (λ (k : Layout). table_after_setup k.limits (store_room k held) req t) laid
+    ap (λ (k : SizedLayout). table_after_setup k.limits (store_room k held) req t) laid
     ∙ ap (λ (b : Bool). table_after_setup (limits_of config) (store_room (layout_of config) b) req t) is
 
 one_more : (old : List Uplink) (u : Uplink) → length (old ++ u ∷ []) ≤ length old + 1

@@ -21,7 +21,7 @@ use Rattle.frag_session.specs.Session.{Session, new_session, followed, after_fra
 use Rattle.frag_session.specs.HeldHistory.{IsSetUp}
 use Rattle.mc_frames.specs.declared.fault.FrameFault.{FrameFault}
 use Rattle.device_core.specs.declared.arrival.Arrival.{Arrival}
-use Rattle.device_core.specs.declared.config.DeviceConfig.{DeviceConfig}
+use Rattle.device_core.specs.Configuration.{Configuration}
 use Rattle.device_core.specs.declared.delivered.Delivered.{Delivered}
 use Rattle.device_core.specs.SessionTable.{SessionTable, session_at, with_session}
 use Rattle.device_core.specs.Device.{DeviceState, room_of, limits_of}
@@ -331,12 +331,12 @@ event_fine carries last line d (HearsBytes t word mark bytes) le comes h =
 
 -- ---- the configuration stays
 
-config_by : (config : DeviceConfig) (b : Bool) (one other : DeviceState) → one.config ≡ config → other.config ≡ config
+config_by : (config : Configuration) (b : Bool) (one other : DeviceState) → one.config ≡ config → other.config ≡ config
     → (cond b one other).config ≡ config
 config_by config true one other is same = is
 config_by config false one other is same = same
 
-step_config : (config : DeviceConfig) (b : Bool) (one other : DeviceStep) → one.device.config ≡ config
+step_config : (config : Configuration) (b : Bool) (one other : DeviceStep) → one.device.config ≡ config
     → other.device.config ≡ config → (cond b one other).device.config ≡ config
 step_config config true one other is same = is
 step_config config false one other is same = same
@@ -364,7 +364,7 @@ commands_config here d (c ∷ cs) =
     commands_config here (after_answers (step here d c)) cs ∙ answers_config (step here d c)
     ∙ step_config d.config (acts here.via c) (command_step here d c) (no_answer d) (command_config here d c) refl
 
-outcome_config : (config : DeviceConfig) (b : Bool) (one other : Outcome Delivered) → one.device.config ≡ config
+outcome_config : (config : Configuration) (b : Bool) (one other : Outcome Delivered) → one.device.config ≡ config
     → other.device.config ≡ config → (cond b one other).device.config ≡ config
 outcome_config config true one other is same = is
 outcome_config config false one other is same = same

@@ -3,7 +3,7 @@ use Rattle.std.proofs.Common.{◌≡◌, ◌⊎◌, ℕ, ◌≤◌, true, false,
 use Rattle.flash_session.specs.Contents.{HasRisen}
 use Rattle.flash_session.specs.Moments.{LeavesOnly}
 use Rattle.flash_session.specs.Seen.{FlashSeen, left}
-use Rattle.session_store.specs.declared.held_slots.Layout.{Layout}
+use Rattle.session_store.specs.Size.{SizedLayout}
 use Rattle.session_store.specs.declared.store.FlashFault.{FlashFault}
 use Rattle.session_store.specs.declared.state.State.{State}
 use Rattle.session_store.specs.declared.state.State.TheVariants.{Memory, Flash, Down}
@@ -68,12 +68,12 @@ leaves_only P Q old new here run = record {
 
 -- ---- tables
 
-pub lies_left : (l : Layout) (some more : List SessionTable) (c : List ℕ) → LiesOneOf l some c → LiesOneOf l (some ++ more) c
+pub lies_left : (l : SizedLayout) (some more : List SessionTable) (c : List ℕ) → LiesOneOf l some c → LiesOneOf l (some ++ more) c
 lies_left l [] more c lies = absurd lies
 lies_left l (t ∷ some) more c (inl lies) = inl lies
 lies_left l (t ∷ some) more c (inr lies) = inr (lies_left l some more c lies)
 
-pub lies_right : (l : Layout) (some more : List SessionTable) (c : List ℕ) → LiesOneOf l more c → LiesOneOf l (some ++ more) c
+pub lies_right : (l : SizedLayout) (some more : List SessionTable) (c : List ℕ) → LiesOneOf l more c → LiesOneOf l (some ++ more) c
 lies_right l [] more c lies = lies
 lies_right l (t ∷ some) more c lies = inr (lies_right l some more c lies)
 

@@ -3,7 +3,7 @@ use Rattle.std.proofs.Common.{◌≡◌, ℕ, refl, sym, ap, subst, ◌∙◌}
 use Rattle.frag_session.specs.Session.{view_of}
 use Rattle.image_slots.specs.HeldSlots.{HeldSlots}
 use Rattle.image_slots.specs.Slots.{Slots}
-use Rattle.session_store.specs.declared.held_slots.Idles.{Idles}
+use Rattle.session_store.specs.declared.flash_sessions.IdleSessions.{IdleSessions}
 use Rattle.session_store.specs.declared.state.State.{State}
 use Rattle.session_store.specs.declared.state.State.TheVariants.{Memory, Flash, Down}
 use Rattle.session_store.specs.declared.state.CompleteFlags.{CompleteFlags}
@@ -19,15 +19,15 @@ use Rattle.device_core.proofs.Quiet.{power_is_quiet}
 
 -- which were whole is determined
 pub had_whole : (s : State) (now whole : CompleteFlags) → ((table : SessionTable) → StateStands s table → now ≡ flags_of table)
-    → ((idles : Idles) (was : CompleteFlags) → s ≡ Down idles was → now ≡ was) → HadWhole s whole → now ≡ whole
+    → ((idles : IdleSessions) (was : CompleteFlags) → s ≡ Down idles was → now ≡ was) → HadWhole s whole → now ≡ whole
 had_whole (Memory slots) now whole is was had = is had.0 had.1 ∙ sym had.2
 had_whole (Flash slots) now whole is was had = is had.0 had.1 ∙ sym had.2
 had_whole (Down idles v) now whole is was had = was idles v refl ∙ sym had
 
 -- at an error which were whole is kept
 pub had_stays : (old new : State)
-    → ((table : SessionTable) → StateStands old table → (idles : Idles) × (new ≡ Down idles (flags_of table)))
-    → ((idles : Idles) (flags : CompleteFlags) → old ≡ Down idles flags → (now : Idles) × (new ≡ Down now flags))
+    → ((table : SessionTable) → StateStands old table → (idles : IdleSessions) × (new ≡ Down idles (flags_of table)))
+    → ((idles : IdleSessions) (flags : CompleteFlags) → old ≡ Down idles flags → (now : IdleSessions) × (new ≡ Down now flags))
     → (flags : CompleteFlags) → HadWhole old flags → HadWhole new flags
 had_stays (Memory slots) new up down flags had =
     subst (λ (s : State). HadWhole s flags) (sym (up had.0 had.1).1) had.2

@@ -6,7 +6,7 @@ use Rattle.session_store.specs.declared.state.CompleteFlags.{CompleteFlags}
 use Rattle.session_store.specs.CompleteFlags.{flags_of}
 use Rattle.mc_group.specs.declared.group.Group.{Group}
 use Rattle.mc_group.specs.Groups.{group_at}
-use Rattle.device_core.specs.declared.config.DeviceConfig.{DeviceConfig}
+use Rattle.device_core.specs.Configuration.{Configuration}
 use Rattle.device_core.specs.Device.{DeviceState, first_device, is_config}
 use Rattle.device_core.specs.Power.{after_power}
 use Rattle.device_core.specs.Saving.{IsOver, IsSaved}
@@ -20,14 +20,14 @@ both true true is = (refl, refl)
 both true false is = absurd cc
 both false b is = absurd cc
 
-pub few_places : (config : DeviceConfig) → is_config config ≡ true → config.groups ≤ 4
+pub few_places : (config : Configuration) → is_config config ≡ true → config.groups ≤ 4
 few_places config is =
     let a = both _ _ is in
     let b = both _ _ a.0 in
     let c = both _ _ b.1 in
     leb-true config.groups 4 c.1
 
-told_apart : (config : DeviceConfig) (saved running next : List ℕ) (a b : DeviceState) (whole_a whole_b : CompleteFlags)
+told_apart : (config : Configuration) (saved running next : List ℕ) (a b : DeviceState) (whole_a whole_b : CompleteFlags)
     → IsSaved config saved running next a whole_a → IsSaved config saved running next b whole_b
     → (record a { sessions = no_sessions } ≡ record b { sessions = no_sessions }) × (whole_a ≡ whole_b)
 told_apart config saved running next a b whole_a whole_b is_a is_b =
@@ -41,7 +41,7 @@ no_matter : (whole : CompleteFlags) (table : SessionTable) (device : DeviceState
 unfolding after_power
 no_matter whole table device = refl
 
-same : (config : DeviceConfig) (saved running next : List ℕ) (device again : DeviceState) (whole : CompleteFlags)
+same : (config : Configuration) (saved running next : List ℕ) (device again : DeviceState) (whole : CompleteFlags)
     → IsSaved config saved running next device (flags_of device.sessions) → IsSaved config saved running next again whole
     → after_power whole device.sessions again ≡ device
 same config saved running next device again whole is is_again =
@@ -52,7 +52,7 @@ same config saved running next device again whole is is_again =
     ∙ sym (no_matter (flags_of device.sessions) device.sessions device)
     ∙ power_is_quiet device
 
-first_over : (config : DeviceConfig) → is_config config ≡ true → config.offset < 2 ^ 32 → IsOver config (first_device config)
+first_over : (config : Configuration) → is_config config ≡ true → config.offset < 2 ^ 32 → IsOver config (first_device config)
 first_over config is offset = record {
   config_is = refl;
   offset = offset;

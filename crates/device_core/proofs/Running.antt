@@ -16,7 +16,7 @@ use Rattle.package_grammar.specs.declared.downlink.Downlink.{Downlink}
 use Rattle.package_grammar.specs.Reading.{Reading, reading_of}
 use Rattle.mc_frames.specs.declared.fault.FrameFault.{FrameFault}
 use Rattle.device_core.specs.declared.arrival.Arrival.{Arrival}
-use Rattle.device_core.specs.declared.config.DeviceConfig.{DeviceConfig}
+use Rattle.device_core.specs.Configuration.{Configuration}
 use Rattle.device_core.specs.declared.delivered.Delivered.{Delivered}
 use Rattle.device_core.specs.declared.delivered.OutboxFull as outbox
 use Rattle.device_core.specs.declared.uplink.Uplink.{Uplink}
@@ -126,8 +126,8 @@ same d e config slots = record {
 keeps_on : (d e f : DeviceState) → Keeps d e → Keeps e f → Keeps d f
 keeps_on d e f one more = record {
   config = more.config ∙ one.config;
-  slots = λ k. subst (λ (x : DeviceConfig). IsSound x.hw f.slots) one.config
-      (more.slots (subst (λ (x : DeviceConfig). IsSound x.hw e.slots) (sym one.config) (one.slots k)));
+  slots = λ k. subst (λ (x : Configuration). IsSound x.hw f.slots) one.config
+      (more.slots (subst (λ (x : Configuration). IsSound x.hw e.slots) (sym one.config) (one.slots k)));
 }
 
 device_by : (d e f : DeviceState) (b : Bool) → Keeps d e → Keeps d f → Keeps d (cond b e f)
@@ -284,7 +284,7 @@ events_keep d (event ∷ events) = keeps_on d _ _ (event_keeps d event) (events_
 
 -- ---- from the start
 
-first_sound : (config : DeviceConfig) → IsSound config.hw (first_device config).slots
+first_sound : (config : Configuration) → IsSound config.hw (first_device config).slots
 first_sound config = record { runs = inl (refl, refl); read = inl refl }
 
 pub runs_images : RunsImagesAlone

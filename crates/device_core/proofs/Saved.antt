@@ -17,7 +17,7 @@ use Rattle.image_slots.specs.Slots.{Slots, first_slots}
 use Rattle.session_store.specs.declared.state.CompleteFlags.{CompleteFlags}
 use Rattle.device_core.specs.declared.class_session.ClassSession.{ClassSession}
 use Rattle.device_core.specs.declared.class_session.Kind.TheVariants.{ClassC, ClassB}
-use Rattle.device_core.specs.declared.config.DeviceConfig.{DeviceConfig}
+use Rattle.device_core.specs.Configuration.{Configuration}
 use Rattle.device_core.specs.declared.uplink.Uplink.{Uplink}
 use Rattle.device_core.specs.Device.{DeviceState, first_device}
 use Rattle.device_core.specs.SessionTable.{no_sessions}
@@ -102,7 +102,7 @@ PartsOf device flags bytes =
     Parts (clock_bytes device.clock) (moment_bytes device.last_due) (groups_bytes device.groups) (session_bytes device.class_session)
     (reboot_bytes device.reboot) (counts_bytes device.counts) (slots_bytes device.slots) (flags_bytes flags) (uplinks_bytes device.outbox) bytes
 
-parts_saved : (config : DeviceConfig) (device : DeviceState) (flags : CompleteFlags) → IsOver config device → PartsOf device flags (saved_of device flags)
+parts_saved : (config : Configuration) (device : DeviceState) (flags : CompleteFlags) → IsOver config device → PartsOf device flags (saved_of device flags)
 unfolding saved_of state_bytes
 parts_saved config device flags over =
     let digest = sha256 (state_bytes device flags ++ config_bytes device.config ++ device.slots.running ++ device.slots.next_file) in
@@ -149,7 +149,7 @@ slots_same : (slots : Slots) (formats version : ℕ) (next : ImageState) (file :
 slots_same slots formats version next file a b c d = rw (a, b, c, d) refl
 
 -- slots are read as they were
-slots_told : (config : DeviceConfig) (slots : Slots) (bytes : List ℕ) → AreSlots config slots → SlotsLie slots bytes
+slots_told : (config : Configuration) (slots : Slots) (bytes : List ℕ) → AreSlots config slots → SlotsLie slots bytes
     → slots_in config.hw (first_slots config.formats) bytes slots.running slots.next_file ≡ slots
 slots_told config slots bytes are lie =
     let formats = formats_told config.formats slots bytes are.formats lie.formats in
@@ -166,7 +166,7 @@ slots_told config slots bytes are lie =
     ]
 
 -- a file comes only where next is not none
-none_told : (config : DeviceConfig) (slots : Slots) (bytes : List ℕ) → AreSlots config slots → SlotsLie slots bytes
+none_told : (config : Configuration) (slots : Slots) (bytes : List ℕ) → AreSlots config slots → SlotsLie slots bytes
     → get_or bytes 186 0 ≡ 0 → length slots.next_file ≡ 0
 none_told config slots bytes are lie is = elim are.next [
   | inl none ↦ ap length none.1
@@ -179,12 +179,12 @@ spelled_all : (uplinks : List Uplink) → AllByRecursion UplinkFits uplinks → 
 spelled_all [] all = tt
 spelled_all (uplink ∷ uplinks) all = (all.0.spelled, spelled_all uplinks all.1)
 
-pub record IsReadBack (config : DeviceConfig) (saved running next : List ℕ) (device : DeviceState) (flags : CompleteFlags) : Type 0 where
+pub record IsReadBack (config : Configuration) (saved running next : List ℕ) (device : DeviceState) (flags : CompleteFlags) : Type 0 where
   pub fits : CanTake config saved running next
   pub told : told_of (first_device config) saved running next ≡ record device { sessions = no_sessions }
   pub flags_are : flags_in saved ≡ flags
 
-read_of : (config : DeviceConfig) (device : DeviceState) (flags : CompleteFlags) (bytes : List ℕ) → IsOver config device → PartsOf device flags bytes
+read_of : (config : Configuration) (device : DeviceState) (flags : CompleteFlags) (bytes : List ℕ) → IsOver config device → PartsOf device flags bytes
     → IsReadBack config bytes device.slots.running device.slots.next_file device flags
 read_of config device flags bytes over parts =
     let lie = slots_back device.slots bytes over.slots.version parts.slots in
@@ -210,7 +210,7 @@ read_of config device flags bytes over parts =
       flags_are = flags_back flags bytes parts.flags;
     }
 
-pub read_back : (config : DeviceConfig) (saved running next : List ℕ) (device : DeviceState) (flags : CompleteFlags)
+pub read_back : (config : Configuration) (saved running next : List ℕ) (device : DeviceState) (flags : CompleteFlags)
     → IsSaved config saved running next device flags → IsReadBack config saved running next device flags
 read_back config saved running next device flags is =
     rw (← is.running_is, ← is.next_is, ← is.saved_is)
@@ -268,7 +268,7 @@ formats_fit : (b : Bool) (formats : ℕ) → ((if b then 2 else formats) ≡ for
 formats_fit true formats = inr refl
 formats_fit false formats = inl refl
 
-slots_fit : (config : DeviceConfig) (bytes running next : List ℕ) (b : Bool) → (get_or bytes 186 0 == 0) ≡ b → (all : (k : ℕ) → get_or bytes k 0 < 256)
+slots_fit : (config : Configuration) (bytes running next : List ℕ) (b : Bool) → (get_or bytes 186 0 == 0) ≡ b → (all : (k : ℕ) → get_or bytes k 0 < 256)
     → CanTake config bytes running next
     → AreSlots config (if b then running_in (first_slots config.formats) bytes running
     else record (running_in (first_slots config.formats) bytes running) {
@@ -290,7 +290,7 @@ slots_fit config bytes running next false is all fits = record {
   next = inr refl;
 }
 
-pub over_told : (config : DeviceConfig) (bytes running next : List ℕ) → (all : (k : ℕ) → get_or bytes k 0 < 256) → length bytes ≡ 492
+pub over_told : (config : Configuration) (bytes running next : List ℕ) → (all : (k : ℕ) → get_or bytes k 0 < 256) → length bytes ≡ 492
     → config.groups ≤ 4 → CanTake config bytes running next → IsOver config (told_of (first_device config) bytes running next)
 over_told config bytes running next all long few fits = record {
   config_is = refl;
@@ -319,7 +319,7 @@ none_of [] is = refl
 none_of (x ∷ file) is = absurd (omega (arith, is))
 
 -- a file that comes for a next that is none has no bytes, so that next is what was saved
-pub files_told : (config : DeviceConfig) (bytes running next : List ℕ) → CanTake config bytes running next
+pub files_told : (config : Configuration) (bytes running next : List ℕ) → CanTake config bytes running next
     → (told_of (first_device config) bytes running next).slots.next_file ≡ next
 files_told config bytes running next fits = by_byte (get_or bytes 186 0 == 0) refl
   where
@@ -334,7 +334,7 @@ files_told config bytes running next fits = by_byte (get_or bytes 186 0 == 0) re
 
 -- ---- how long they are
 
-length-saved : (config : DeviceConfig) (device : DeviceState) (flags : CompleteFlags) → IsOver config device → length (saved_of device flags) ≡ 492
+length-saved : (config : Configuration) (device : DeviceState) (flags : CompleteFlags) → IsOver config device → length (saved_of device flags) ≡ 492
 unfolding saved_of state_bytes
 length-saved config device flags over =
     let c = clock_bytes device.clock in
@@ -368,6 +368,6 @@ length-saved config device flags over =
         )
 
 -- bytes of a record are so many
-pub saved_long : (config : DeviceConfig) (saved running next : List ℕ) (device : DeviceState) (flags : CompleteFlags)
+pub saved_long : (config : Configuration) (saved running next : List ℕ) (device : DeviceState) (flags : CompleteFlags)
     → IsSaved config saved running next device flags → length saved ≡ 492
 saved_long config saved running next device flags is = ap length (sym is.saved_is) ∙ length-saved config device flags is.over

@@ -1,7 +1,7 @@
 -- What a due reboot and a waking leave of a device: its configuration and its sessions.
 use Rattle.std.proofs.Common.{◌≡◌, ℕ, Bool, true, false, cond, [], Option, Result, refl, ap, ◌∙◌}
 use Rattle.frag_session.specs.Session.{Session}
-use Rattle.device_core.specs.declared.config.DeviceConfig.{DeviceConfig}
+use Rattle.device_core.specs.Configuration.{Configuration}
 use Rattle.device_core.specs.declared.delivered.OutboxFull as outbox
 use Rattle.device_core.specs.SessionTable.{SessionTable, session_at, with_session}
 use Rattle.device_core.specs.Device.{DeviceState}
@@ -15,7 +15,7 @@ pub record Stays (d e : DeviceState) : Type 0 where
   pub sessions : e.sessions ≡ d.sessions
 
 -- its configuration stays, and its session of an index becomes what this says
-pub record Moves (index : ℕ) (F : DeviceConfig → Option Session → Option Session) (d e : DeviceState) : Type 0 where
+pub record Moves (index : ℕ) (F : Configuration → Option Session → Option Session) (d e : DeviceState) : Type 0 where
   pub config : e.config ≡ d.config
   pub sessions : e.sessions ≡ with_session d.sessions index (F d.config (session_at d.sessions index))
 
@@ -38,7 +38,7 @@ unfolding after_due_reboot
 reboot_keeps t d = like_by d _ _ (record { config = refl; sessions = refl; outbox = refl })
 
 -- what is made between two reboots is what is made
-pub between : {A : Type 0} (index : ℕ) (F : DeviceConfig → Option Session → Option Session) (t : ℕ) (d : DeviceState) (o : Outcome A)
+pub between : {A : Type 0} (index : ℕ) (F : Configuration → Option Session → Option Session) (t : ℕ) (d : DeviceState) (o : Outcome A)
     → Moves index F (after_due_reboot t d) o.device
     → Moves index F d (record (with_due_reboot t o).device { outbox = [] })
 between index F t d o h =
@@ -48,7 +48,7 @@ between index F t d o h =
     record {
       config = r.config ∙ h.config ∙ k.config;
       sessions = r.sessions ∙ h.sessions
-          ∙ ap (λ (x : DeviceConfig). with_session m.sessions index (F x (session_at m.sessions index))) k.config
+          ∙ ap (λ (x : Configuration). with_session m.sessions index (F x (session_at m.sessions index))) k.config
           ∙ ap (λ (x : SessionTable). with_session x index (F d.config (session_at x index))) k.sessions;
     }
 

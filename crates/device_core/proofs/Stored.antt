@@ -7,7 +7,7 @@ use Rattle.flash_session.specs.Seen.{FlashSeen}
 use Rattle.session_store.specs.HeldPlaces.{TableLies, TableOldOrNew, TableOldNoneOrNew}
 use Rattle.session_store.specs.declared.store.FlashFault.{FlashFault}
 use Rattle.device_core.specs.declared.arrival.Arrival.{Arrival}
-use Rattle.device_core.specs.declared.config.DeviceConfig.{DeviceConfig}
+use Rattle.device_core.specs.Configuration.{Configuration}
 use Rattle.device_core.specs.declared.uplink.Answer.{Answer}
 use Rattle.device_core.specs.Answers.{after_answers}
 use Rattle.device_core.specs.Device.{DeviceState, layout_of}
@@ -34,25 +34,25 @@ keeps_at {F} seen old store new r after tables is keeps =
 abbrev pub setup_table : {F : Type 0} → HeldStore F → SetupReq → SessionTable → SessionTable
 setup_table store req t = table_after_setup store.layout.limits (store_room store.layout store.held) req t
 
-config_is : {F : Type 0} (old : HeldDevice F) (config : DeviceConfig) (device : DeviceState) → old.config ≡ config → DeviceStands old device → config ≡ device.config
+config_is : {F : Type 0} (old : HeldDevice F) (config : Configuration) (device : DeviceState) → old.config ≡ config → DeviceStands old device → config ≡ device.config
 config_is old config device is stands = sym (ap (λ (d : DeviceState). d.config) stands.rest ∙ is)
 
-setup_sessions : {F : Type 0} (here : Arrival) (old : HeldDevice F) (store : HeldStore F) (config : DeviceConfig) (req : SetupReq) (device : DeviceState)
+setup_sessions : {F : Type 0} (here : Arrival) (old : HeldDevice F) (store : HeldStore F) (config : Configuration) (req : SetupReq) (device : DeviceState)
     → old.config ≡ config → store.layout ≡ layout_of config → store.held ≡ config.held → DeviceStands old device
     → (setup_step here device req).device.sessions ≡ setup_table store req device.sessions
 unfolding setup_step
 setup_sessions here old store config req device is laid held stands =
     sym (setup_table_is store.layout store.held device.config req device.sessions
-    (laid ∙ ap (λ (k : DeviceConfig). layout_of k) (config_is old config device is stands))
-    (held ∙ ap (λ (k : DeviceConfig). k.held) (config_is old config device is stands)))
+    (laid ∙ ap (λ (k : Configuration). layout_of k) (config_is old config device is stands))
+    (held ∙ ap (λ (k : Configuration). k.held) (config_is old config device is stands)))
 
-pub setup_goes : {F : Type 0} (here : Arrival) (old : HeldDevice F) (store : HeldStore F) (config : DeviceConfig) (req : SetupReq) (device : DeviceState)
+pub setup_goes : {F : Type 0} (here : Arrival) (old : HeldDevice F) (store : HeldStore F) (config : Configuration) (req : SetupReq) (device : DeviceState)
     → old.config ≡ config → store.layout ≡ layout_of config → store.held ≡ config.held → DeviceStands old device
     → (after_answers (setup_step here device req)).sessions ≡ setup_table store req device.sessions
 unfolding after_answers
 setup_goes here old store config req device is laid held stands = setup_sessions here old store config req device is laid held stands
 
-pub setup_passes : {F : Type 0} (here : Arrival) (old : HeldDevice F) (store : HeldStore F) (config : DeviceConfig) (req : SetupReq) (device : DeviceState) (b : List ℕ)
+pub setup_passes : {F : Type 0} (here : Arrival) (old : HeldDevice F) (store : HeldStore F) (config : Configuration) (req : SetupReq) (device : DeviceState) (b : List ℕ)
     → old.config ≡ config → store.layout ≡ layout_of config → store.held ≡ config.held → DeviceStands old device → TableOldNoneOrNew store.layout req.index device.sessions (setup_table store req device.sessions) b
     → LiesOneOf store.layout (device.sessions ∷ with_session device.sessions req.index None ∷ (setup_step here device req).device.sessions ∷ []) b
 setup_passes here old store config req device b is laid held stands (inl before) = inl before

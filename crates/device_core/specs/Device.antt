@@ -7,21 +7,20 @@ use Rattle.image_slots.specs.Slots.{Slots, first_slots}
 use Rattle.frag_session.specs.declared.setups.Limits.{Limits}
 use Rattle.frag_session.specs.Setup.{Room}
 use Rattle.flash_session.specs.Layout.{records_place}
-use Rattle.session_store.specs.declared.held_slots.Layout.{Layout}
-use Rattle.session_store.specs.Rows.{store_room}
+use Rattle.session_store.specs.Size.{SizedLayout, store_room}
 use Rattle.device_core.specs.declared.class_session.ClassSession.{ClassSession}
-use Rattle.device_core.specs.declared.config.DeviceConfig.{DeviceConfig}
+use Rattle.device_core.specs.Configuration.{Configuration}
 use Rattle.device_core.specs.declared.counts.Counts.{Counts}
 use Rattle.device_core.specs.declared.uplink.Uplink.{Uplink}
 use Rattle.device_core.specs.SessionTable.{SessionTable, no_sessions}
 -- what is kept for the rows of a session
-pub use Rattle.session_store.specs.Rows.{row_words, row_bytes}
+pub use Rattle.session_store.specs.Size.{row_words, row_bytes, large_size, session_extent}
 
 -- clock: its offset and token; last_due: when the uplink made last is due, in ms of true time;
 -- groups: a place for each id; reboot: the moment that is set, in seconds of its clock;
 -- outbox: the uplinks not yet taken, oldest first
 pub record DeviceState : Type 0 where
-  pub config : DeviceConfig
+  pub config : Configuration
   pub clock : Clock
   pub last_due : Option ℕ
   pub groups : List (Option Group)
@@ -33,7 +32,7 @@ pub record DeviceState : Type 0 where
   pub counts : Counts
 
 -- at its start it has its configuration; nothing is heard, held or set
-abbrev pub first_device : DeviceConfig → DeviceState
+abbrev pub first_device : Configuration → DeviceState
 first_device config = record {
   config = config;
   clock = first_clock config.offset;
@@ -76,7 +75,7 @@ max_moment = 4294967295999
 -- ---- what a configuration may be, and what it lets sessions be
 
 -- each number is within its bounds
-abbrev pub is_config : DeviceConfig → Bool
+abbrev pub is_config : Configuration → Bool
 is_config config =
     (nat_le 1 config.formats && nat_le config.formats max_formats)
     && nat_le config.rows max_rows
@@ -85,18 +84,18 @@ is_config config =
     && (nat_le 1 config.area && nat_le config.area max_area)
 
 -- where its sessions are held in flash, their ranges are long enough and within so many bytes
-abbrev pub has_ranges : DeviceConfig → (room : ℕ) → Bool
+abbrev pub has_ranges : Configuration → (room : ℕ) → Bool
 has_ranges config room =
     if config.held then nat_le records_place config.span && nat_le (4 * config.span) room else true
 
-abbrev pub limits_of : DeviceConfig → Limits
+abbrev pub limits_of : Configuration → Limits
 limits_of config = record { sessions = config.sessions; rows = config.rows; descriptor = config.descriptor }
 
-abbrev pub layout_of : DeviceConfig → Layout
-layout_of config = record { area = config.area; span = config.span; limits = limits_of config }
+abbrev pub layout_of : Configuration → SizedLayout
+layout_of config = record { size = config.size; area = config.area; span = config.span; limits = limits_of config }
 
 -- the room for a session: where it is held in flash, its range too
-abbrev pub room_of : DeviceConfig → Room
+abbrev pub room_of : Configuration → Room
 room_of config = store_room (layout_of config) config.held
 
 -- ---- counters

@@ -4,7 +4,7 @@ use Rattle.image_slots.specs.HeldSlots.{HeldSlots}
 use Rattle.device_core.specs.declared.class_session.ClassSession.{ClassSession}
 use Rattle.device_core.specs.declared.class_session.Kind.{Kind}
 use Rattle.device_core.specs.declared.class_session.Kind.TheVariants.{ClassC, ClassB}
-use Rattle.device_core.specs.declared.config.DeviceConfig.{DeviceConfig}
+use Rattle.device_core.specs.Configuration.{Configuration}
 use Rattle.device_core.specs.Device.{layout_of}
 use Rattle.device_core.specs.HeldSessions.{HeldStore}
 
@@ -18,7 +18,7 @@ SessionFits None = Unit {0}
 SessionFits (Some session) = (session.timeout < 16) × KindFits session.kind
 
 -- sessions and slots are as the configuration says, and the class session is one
-pub record IsDevice {F : Type 0} (config : DeviceConfig) (sessions : HeldStore F) (slots : HeldSlots)
+pub record IsDevice {F : Type 0} (config : Configuration) (sessions : HeldStore F) (slots : HeldSlots)
     (session : Option ClassSession) : Type 0 where
   pub layout : sessions.layout ≡ layout_of config
   pub held : sessions.held ≡ config.held

@@ -7,7 +7,7 @@ use Rattle.package_grammar.specs.Reading.{Reading, reading_of}
 use Rattle.flash_session.specs.Contents.{HasCause}
 use Rattle.flash_session.specs.Moments.{LeavesOnly}
 use Rattle.flash_session.specs.Seen.{FlashSeen, left}
-use Rattle.session_store.specs.declared.held_slots.Idles.{Idles}
+use Rattle.session_store.specs.declared.flash_sessions.IdleSessions.{IdleSessions}
 use Rattle.session_store.specs.declared.store.FlashFault.{FlashFault}
 use Rattle.session_store.specs.declared.state.State.TheVariants.{Down}
 use Rattle.session_store.specs.HeldPlaces.{TableLies}
@@ -64,7 +64,7 @@ GivesPassed seen old new tables = (device : DeviceState) → DeviceStands old de
 -- the sessions went down, and all else is as it was
 pub record Fails {F : Type 0} (old new : HeldDevice F) : Type 0 where
   pub down : (table : SessionTable) → StateStands old.sessions.state table
-      → (idles : Idles) × (new.sessions.state ≡ Down idles (flags_of table))
+      → (idles : IdleSessions) × (new.sessions.state ≡ Down idles (flags_of table))
   pub rest : (table : SessionTable) → device_of new table ≡ device_of old table
 
 -- what its flash holds and may be left with, and why it failed: after Ok the sessions are stored as they are then
@@ -96,7 +96,7 @@ pub record FailsAt {F : Type 0} (here : Arrival) (device : DeviceState) (cs : Li
   pub behind : List Command
   pub parted : cs ≡ front ++ failing ∷ behind
   pub rest : (table : SessionTable) → device_of new table ≡ record (after_commands here device front) { sessions = table }
-  pub down : (idles : Idles) × (new.sessions.state ≡ Down idles (flags_of (after_commands here device front).sessions))
+  pub down : (idles : IdleSessions) × (new.sessions.state ≡ Down idles (flags_of (after_commands here device front).sessions))
 
 -- what was read of it would have acted, and the flash failed at one of its commands
 pub record FailsIn {F : Type 0} (made : Outcome Delivered) (here : Arrival) (device : DeviceState) (reading : Reading)

@@ -4,13 +4,13 @@ use Rattle.clock_sync.specs.Clock.{Clock}
 use Rattle.mc_group.specs.declared.group.Group.{Group}
 use Rattle.image_slots.specs.Slots.{Slots}
 use Rattle.device_core.specs.declared.class_session.ClassSession.{ClassSession}
-use Rattle.device_core.specs.declared.config.DeviceConfig.{DeviceConfig}
+use Rattle.device_core.specs.Configuration.{Configuration}
 use Rattle.device_core.specs.declared.config.ReserveError.{ReserveError}
 use Rattle.device_core.specs.declared.config.ReserveError.TheVariants.{BadConfig, Memory}
 use Rattle.device_core.specs.declared.counts.Counts.{Counts}
 use Rattle.device_core.specs.declared.uplink.Uplink.{Uplink}
 use Rattle.device_core.specs.declared.uplink.Answer.{Answer}
-use Rattle.session_store.specs.declared.held_slots.Idles.{Idles}
+use Rattle.session_store.specs.declared.flash_sessions.IdleSessions.{IdleSessions}
 use Rattle.session_store.specs.declared.state.State.TheVariants.{Down}
 use Rattle.session_store.specs.CompleteFlags.{none_complete}
 use Rattle.device_core.specs.SessionTable.{SessionTable, no_sessions}
@@ -21,7 +21,7 @@ use Rattle.device_core.specs.HeldSessions.{HeldStore, StateStands}
 
 -- a device without the histories of its sessions; they are in memory, in its flash, or down
 pub record HeldDevice (F : Type 0) : Type 0 where
-  pub config : DeviceConfig
+  pub config : Configuration
   pub clock : Clock
   pub last_due : Option ℕ
   pub groups : List (Option Group)
@@ -72,21 +72,21 @@ pub record GoesAside {F : Type 0} (old new : HeldDevice F) (after : DeviceState 
 
 -- it has this flash, and stands for the first record of its configuration; one whose sessions are held in flash is down, and
 -- had no file whole
-pub record Starts {F : Type 0} (config : DeviceConfig) (flash : F) (held : HeldDevice F) : Type 0 where
+pub record Starts {F : Type 0} (config : Configuration) (flash : F) (held : HeldDevice F) : Type 0 where
   pub flash_is : held.sessions.flash ≡ flash
   pub held_is : held.sessions.held ≡ config.held
   pub layout_is : held.sessions.layout ≡ layout_of config
   pub up : config.held ≡ false → DeviceStands held (first_device config)
-  pub down : config.held ≡ true → (idles : Idles) × (held.sessions.state ≡ Down idles none_complete)
+  pub down : config.held ≡ true → (idles : IdleSessions) × (held.sessions.state ≡ Down idles none_complete)
   pub rest : device_of held no_sessions ≡ first_device config
 
 -- each number is within its bounds, and the flash has room
-abbrev pub can_reserve : DeviceConfig → (room : ℕ) → Bool
+abbrev pub can_reserve : Configuration → (room : ℕ) → Bool
 can_reserve config room = has_ranges config room && is_config config
 
 -- BadConfig comes exactly where a number of the configuration is out of its bounds, or the flash has no room for the sessions
 -- that it is to hold
-abbrev pub IsReserved : {F : Type 0} → DeviceConfig → (room : ℕ) → (flash : F) → Result (HeldDevice F) ReserveError → Type 0
+abbrev pub IsReserved : {F : Type 0} → Configuration → (room : ℕ) → (flash : F) → Result (HeldDevice F) ReserveError → Type 0
 IsReserved config room flash (Ok held) = IsTrue (can_reserve config room) × Starts config flash held
 IsReserved config room flash (Err BadConfig) = IsTrue (not (can_reserve config room))
 IsReserved config room flash (Err Memory) = IsTrue (can_reserve config room)

@@ -1,4 +1,5 @@
 pub mod SessionTable
+pub mod Configuration
 pub mod Device
 pub mod Answers
 pub mod Clock

@@ -7,7 +7,7 @@ use Rattle.package_grammar.specs.declared.command.Command.TheVariants.{Cast}
 use Rattle.package_grammar.specs.declared.downlink.Downlink.{Downlink}
 use Rattle.package_grammar.specs.Reading.{Reading, reading_of}
 use Rattle.mc_frames.specs.declared.fault.FrameFault.{FrameFault}
-use Rattle.session_store.specs.declared.held_slots.Layout.{Layout}
+use Rattle.session_store.specs.Size.{SizedLayout}
 use Rattle.session_store.specs.HeldPlaces.{TableLies}
 use Rattle.device_core.specs.declared.arrival.Arrival.{Arrival}
 use Rattle.device_core.specs.Answers.{after_answers}
@@ -72,6 +72,6 @@ abbrev pub tables_aired : (t word mark : ℕ) → List ℕ → DeviceState → L
 tables_aired t word mark bytes device = frame_tables t word mark (brought device bytes) device
 
 -- one of these is there, so that opening gives it
-abbrev pub LiesOneOf : Layout → List SessionTable → List ℕ → Type 0
+abbrev pub LiesOneOf : SizedLayout → List SessionTable → List ℕ → Type 0
 LiesOneOf layout [] c = ⊥
 LiesOneOf layout (table ∷ others) c = TableLies layout table c ⊎ LiesOneOf layout others c

@@ -4,7 +4,7 @@ use Rattle.package_grammar.specs.declared.downlink.Downlink.{Downlink}
 use Rattle.image_slots.specs.declared.view.ImageState.TheVariants.{Valid}
 use Rattle.image_slots.specs.Image.{image_state}
 use Rattle.image_slots.specs.Slots.{Slots}
-use Rattle.device_core.specs.declared.config.DeviceConfig.{DeviceConfig}
+use Rattle.device_core.specs.Configuration.{Configuration}
 use Rattle.device_core.specs.Device.{DeviceState, first_device}
 use Rattle.device_core.specs.Firmware.{after_migration}
 use Rattle.device_core.specs.Deliver.{delivery, waking, taking}
@@ -49,7 +49,7 @@ RunsImage hw slots = RunsNone slots ⊎ (image_state slots.running hw slots.form
 
 -- for any calls, payloads and moments that come to a device of any configuration
 pub record RunsImagesAlone : Type 0 where
-  pub calls : (config : DeviceConfig) (calls : List Call)
+  pub calls : (config : Configuration) (calls : List Call)
       → RunsImage config.hw (after_calls (first_device config) calls).slots
-  pub events : (config : DeviceConfig) (events : List Event)
+  pub events : (config : Configuration) (events : List Event)
       → RunsImage config.hw (after_events (first_device config) events).slots

@@ -37,7 +37,7 @@ use Rattle.device_core.specs.declared.class_session.Kind.{Kind}
 use Rattle.device_core.specs.declared.class_session.Kind.TheVariants.{ClassC, ClassB}
 use Rattle.device_core.specs.declared.config.Class.{Class}
 use Rattle.device_core.specs.declared.config.Class.TheVariants as class
-use Rattle.device_core.specs.declared.config.DeviceConfig.{DeviceConfig}
+use Rattle.device_core.specs.Configuration.{Configuration}
 use Rattle.device_core.specs.declared.counts.Counts.{Counts}
 use Rattle.device_core.specs.declared.uplink.Uplink.{Uplink}
 use Rattle.device_core.specs.Device.{DeviceState, outbox_size}
@@ -129,7 +129,7 @@ abbrev pub root_byte : RootKind → ℕ
 root_byte V10 = 10
 root_byte V11 = 11
 
-unfoldable pub config_bytes : DeviceConfig → List ℕ
+unfoldable pub config_bytes : Configuration → List ℕ
 config_bytes config =
     class_byte config.class ∷ number_bytes 4 config.hw ++ config.formats ∷ number_bytes 2 config.rows
     ++ number_bytes 4 config.offset ++ config.key
@@ -172,7 +172,7 @@ pub record CountsFit (counts : Counts) : Type 0 where
   pub dropped : counts.dropped < 2 ^ 64
 
 -- both files have room; the formats are those of the configuration, or both; next is none, or what its bytes are
-pub record AreSlots (config : DeviceConfig) (slots : Slots) : Type 0 where
+pub record AreSlots (config : Configuration) (slots : Slots) : Type 0 where
   pub formats : (slots.formats ≡ config.formats) ⊎ (slots.formats ≡ 2)
   pub version : slots.version < 2 ^ 32
   pub running : length slots.running ≤ config.area
@@ -186,7 +186,7 @@ pub record UplinkFits (uplink : Uplink) : Type 0 where
   pub spelled : IsUplink uplink
 
 -- a record that a device of this configuration can have, its sessions aside
-pub record IsOver (config : DeviceConfig) (device : DeviceState) : Type 0 where
+pub record IsOver (config : Configuration) (device : DeviceState) : Type 0 where
   pub config_is : device.config ≡ config
   pub offset : device.clock.offset < 2 ^ 32
   pub token : device.clock.token < 16
@@ -202,7 +202,7 @@ pub record IsOver (config : DeviceConfig) (device : DeviceState) : Type 0 where
   pub uplinks : AllByRecursion UplinkFits device.outbox
 
 -- and that has these files, and these bytes
-pub record IsSaved (config : DeviceConfig) (saved running next : List ℕ)
+pub record IsSaved (config : Configuration) (saved running next : List ℕ)
     (device : DeviceState) (flags : CompleteFlags) : Type 0 where
   pub over : IsOver config device
   pub running_is : device.slots.running ≡ running

@@ -6,13 +6,13 @@ use Rattle.clock_sync.specs.Clock.{Clock}
 use Rattle.mc_group.specs.declared.group.Group.{Group}
 use Rattle.image_slots.specs.Image.{image_state}
 use Rattle.image_slots.specs.Slots.{Slots}
-use Rattle.session_store.specs.declared.held_slots.Idles.{Idles}
+use Rattle.session_store.specs.declared.flash_sessions.IdleSessions.{IdleSessions}
 use Rattle.session_store.specs.declared.state.CompleteFlags.{CompleteFlags}
 use Rattle.session_store.specs.declared.state.State.TheVariants.{Down}
 use Rattle.device_core.specs.declared.class_session.ClassSession.{ClassSession}
 use Rattle.device_core.specs.declared.class_session.Kind.{Kind}
 use Rattle.device_core.specs.declared.class_session.Kind.TheVariants.{ClassC, ClassB}
-use Rattle.device_core.specs.declared.config.DeviceConfig.{DeviceConfig}
+use Rattle.device_core.specs.Configuration.{Configuration}
 use Rattle.device_core.specs.declared.config.ReserveError.{ReserveError}
 use Rattle.device_core.specs.declared.config.ReserveError.TheVariants as new
 use Rattle.device_core.specs.declared.saving.RestoreError.{RestoreError}
@@ -136,7 +136,7 @@ told_of device bytes running next = record device {
 }
 
 -- the files have room, a next that is none has no bytes, and the uplinks are some of a device's
-pub record CanTake (config : DeviceConfig) (bytes running next : List ℕ) : Type 0 where
+pub record CanTake (config : Configuration) (bytes running next : List ℕ) : Type 0 where
   pub runs : length running ≤ config.area
   pub follows : length next ≤ config.area
   pub none : slice_index bytes 186 ≡ 0 → length next ≡ 0
@@ -149,6 +149,6 @@ pub record Takes {F : Type 0} (old new : HeldDevice F) (bytes running next : Lis
   pub told : result ≡ true → (table : SessionTable)
       → device_of new table ≡ told_of (device_of old table) bytes running next
   -- sessions that are down had these files whole, and others stay
-  pub down : result ≡ true → (idles : Idles) (was : CompleteFlags) → old.sessions.state ≡ Down idles was
+  pub down : result ≡ true → (idles : IdleSessions) (was : CompleteFlags) → old.sessions.state ≡ Down idles was
       → new.sessions ≡ record old.sessions { state = Down idles (flags_in bytes) }
   pub up : result ≡ true → IsUp old.sessions.state → new.sessions ≡ old.sessions

@@ -6,17 +6,18 @@ use Rattle.session_store.specs.declared.state.CompleteFlags.{CompleteFlags}
 use Rattle.session_store.specs.CompleteFlags.{none_complete}
 use Rattle.device_core.specs.declared.class_session.Kind.TheVariants.{ClassC, ClassB}
 use Rattle.device_core.specs.declared.config.Class.TheVariants as class
-use Rattle.device_core.specs.declared.config.DeviceConfig.{DeviceConfig}
+use Rattle.session_store.specs.Size.{small_size}
+use Rattle.device_core.specs.Configuration.{Configuration}
 use Rattle.device_core.specs.WorkedConfig.{worked_config}
 use Rattle.device_core.specs.Device.{DeviceState, first_device}
 use Rattle.device_core.specs.SessionTable.{no_sessions}
 use Rattle.device_core.specs.Saving.{session_bytes, slots_bytes, config_bytes, state_bytes, saved_of}
 
-abbrev pub plain_config : DeviceConfig
+abbrev pub plain_config : Configuration
 plain_config = record (worked_config class.A 0) { formats = 1; rows = 0; sessions = 1; groups = 1; area = 1024 }
 
 -- fields that differ in each byte
-abbrev pub full_config : DeviceConfig
+abbrev pub full_config : Configuration
 full_config = record {
   class = class.C;
   hw = 0x24232221;
@@ -31,6 +32,7 @@ full_config = record {
   area = 0x34567;
   held = true;
   span = 0x16040;
+  size = small_size;
 }
 
 abbrev pub full_flags : CompleteFlags

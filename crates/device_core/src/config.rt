@@ -1,7 +1,8 @@
 //! The configuration of a device.
 
 ghost use Rattle.std.specs.Prelude.{◌≡◌};
-ghost use Rattle.device_core.specs.Device.{is_config, has_ranges, limits_of, layout_of};
+ghost use Rattle.device_core.specs.Configuration.{at_full_size};
+ghost use Rattle.device_core.specs.Device.{is_config, has_ranges, limits_of};
 
 use frag_session::Limits;
 use mc_keys::RootKind;
@@ -70,7 +71,7 @@ pub enum ReserveError {
 
 /// Says whether each number of a configuration is within its bounds.
 pub fn is_config(config: &DeviceConfig) -> bool
-    ensures { result ≡ is_config config.now }
+    ensures { result ≡ is_config (at_full_size config.now) }
 {
     (1 <= config.formats && config.formats <= 2)
         && config.rows <= MAX_ROWS
@@ -82,7 +83,7 @@ pub fn is_config(config: &DeviceConfig) -> bool
 /// Says whether so many bytes of flash have room for the held sessions: four ranges of the span, each long enough. True where
 /// sessions are not held.
 pub fn has_ranges(config: &DeviceConfig, room: u32) -> bool
-    ensures { result ≡ has_ranges config.now room }
+    ensures { result ≡ has_ranges (at_full_size config.now) room }
 {
     if config.held {
         RECORDS_PLACE <= config.span && 4 * config.span as u64 <= room as u64
@@ -93,7 +94,7 @@ pub fn has_ranges(config: &DeviceConfig, room: u32) -> bool
 
 /// The limits of a device's sessions.
 pub(crate) fn limits_of(config: &DeviceConfig) -> Limits
-    ensures { result ≡ limits_of config.now }
+    ensures { result ≡ limits_of (at_full_size config.now) }
 {
     Limits {
         sessions: config.sessions,
@@ -104,7 +105,11 @@ pub(crate) fn limits_of(config: &DeviceConfig) -> Limits
 
 /// How the sessions of a device are laid out in its flash.
 pub(crate) fn layout_of(config: &DeviceConfig) -> Layout
-    ensures { result ≡ layout_of config.now }
+    ensures { result ≡ record {
+      area = config.now.area;
+      span = config.now.span;
+      limits = limits_of (at_full_size config.now);
+    } }
 {
     Layout {
         area: config.area,

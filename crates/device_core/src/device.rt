@@ -35,7 +35,7 @@ use fragments::offer;
 use image_slots::Slots;
 use mc_group::GroupTable;
 use package_grammar::{Command, Downlink, DownlinkRef};
-use session_store::{FlashFault, SessionStore};
+use session_store::{FlashFault, SessionSize, SessionStore};
 use std::alloc::Global;
 use std::marker::Model;
 
@@ -44,6 +44,7 @@ use std::marker::Model;
 #[derive(Drop)]
 pub struct Device<F: Flash + Drop> {
     config: DeviceConfig,
+    size: SessionSize,
     clock: DeviceClock,
     /// When the uplink made last is due, in ms of true time.
     last_due: Option<u64>,
@@ -60,12 +61,14 @@ pub struct Device<F: Flash + Drop> {
 
 impl<F: Flash + Drop> Model for Device<F> {
     ghost use Rattle.device_core.specs.HeldDevice.{HeldDevice};
+    ghost use Rattle.session_store.specs.Size.{size_with};
+    ghost use Rattle.device_core.specs.Configuration.{configured};
     ghost use Rattle.device_core.specs.DeviceInside.{IsDevice};
 
     ghost Value = { HeldDevice F };
 
     ghost view = { λ d. record {
-      config = d.config;
+      config = configured (size_with d.size) d.config;
       clock = d.clock;
       last_due = d.last_due;
       groups = d.groups;
@@ -77,7 +80,8 @@ impl<F: Flash + Drop> Model for Device<F> {
       counts = d.counts;
     } };
 
-    ghost invariant = { λ d. IsDevice d.config d.sessions d.slots d.class_session };
+    ghost invariant = { λ d.
+        IsDevice (configured (size_with d.size) d.config) d.sessions d.slots d.class_session };
 }
 
 impl<F: Flash + Drop> Device<F> {
@@ -87,6 +91,8 @@ impl<F: Flash + Drop> Device<F> {
     ghost use Rattle.device_core.specs.declared.delivered.Aired.{Aired};
     ghost use Rattle.device_core.specs.declared.delivered.Delivered.{Delivered};
     ghost use Rattle.device_core.specs.declared.delivered.OutboxFull.{OutboxFull};
+    ghost use Rattle.session_store.specs.Size.{size_with};
+    ghost use Rattle.device_core.specs.Configuration.{configured, at_full_size};
     ghost use Rattle.device_core.specs.HeldDevice.{DeviceStands, Becomes, Makes, GoesAside, IsReserved, TakesOldest, device_of, held_with_answers};
     ghost use Rattle.device_core.specs.Sendable.{IsSendable, IsUplink};
 
@@ -95,7 +101,21 @@ impl<F: Flash + Drop> Device<F> {
     /// memory is missing. No flash is called; a device whose sessions are held is down until `power`. At an error the flash is
     /// dropped.
     pub fn reserve(alloc: Global, config: DeviceConfig, flash: F) -> Result<Self, ReserveError>
-        ensures { IsReserved config (F.seen flash).room flash result }
+        ensures { IsReserved (at_full_size config) (F.seen flash).room flash result }
+    {
+        Self::reserve_sized(alloc, config, SessionSize::Large, flash)
+    }
+
+    /// Makes a device as `reserve` does, whose sessions have room for files of a size alone, which takes less memory: a setup of
+    /// more pieces or rows is refused with bit 2. It is never inlined, as `resume`.
+    #[inline(never)]
+    pub fn reserve_sized(
+        alloc: Global,
+        config: DeviceConfig,
+        size: SessionSize,
+        flash: F,
+    ) -> Result<Self, ReserveError>
+        ensures { IsReserved (configured (size_with size) config) (F.seen flash).room flash result }
     {
         if !(has_ranges(&config, flash.size()) && is_config(&config)) {
             return Err(ReserveError::BadConfig);
@@ -105,11 +125,12 @@ impl<F: Flash + Drop> Device<F> {
             return Err(ReserveError::Memory);
         };
         // this comes last, so that no error has to return sessions
-        let Ok(sessions) = SessionStore::reserve(alloc, flash, layout, config.held) else {
+        let Ok(sessions) = SessionStore::reserve(alloc, flash, layout, size, config.held) else {
             return Err(ReserveError::Memory);
         };
         Ok(Device {
             config,
+            size,
             clock: DeviceClock::new(config.offset),
             last_due: None,
             groups: GroupTable::new(config.groups),
@@ -296,6 +317,7 @@ impl<F: Flash + Drop> Device<F> {
     {
         let Device {
             config: _config,
+            size: _size,
             clock: _clock,
             last_due: _last_due,
             groups: _groups,

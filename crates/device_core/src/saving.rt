@@ -4,6 +4,8 @@ ghost use Rattle.std.specs.Prelude.{◌≡◌, ◌+◌, ◌≤◌, ◌++◌, len
 ghost use Rattle.sha2.specs.Sha256.{sha256};
 ghost use Rattle.wire_base.specs.Numbers.{number_bytes};
 ghost use Rattle.device_core.specs.Saving.{option_bytes, flag_byte, clock_bytes, moment_bytes, group_bytes, groups_bytes, kind_byte, periodicity_of, session_bytes, reboot_bytes, counts_bytes, next_byte, next_version, slots_bytes, flags_bytes, class_byte, root_byte, config_bytes};
+ghost use Rattle.session_store.specs.Size.{Size};
+ghost use Rattle.device_core.specs.Configuration.{configured};
 ghost use Rattle.device_core.specs.SavingInside.{restore_error};
 
 use crate::class_session::{ClassSession, Kind};
@@ -238,7 +240,7 @@ fn flag_byte(flag: bool) -> u8
 
 #[tactic(auto, unfolding(crate::specs::Saving::config_bytes))]
 pub(crate) fn config_bytes(config: &DeviceConfig) -> ConfigBytes
-    ensures { result.items ≡ config_bytes config.now }
+    ensures { (size : Size) → result.items ≡ config_bytes (configured size config.now) }
 {
     let mut bytes = ConfigBytes::new();
     put(&mut bytes, &[class_byte(config.class)]);

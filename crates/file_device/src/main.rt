@@ -57,17 +57,22 @@ fn play(rt: &HostRuntime, path: &str, state: &str, line: &[u8]) -> io::Result<()
     if !device.is_held() || device.power().is_err() {
         return Err(wrong());
     }
+    answer_all(rt, &mut device, state)
+}
+
+/// Says that the device has power, and answers each line of input.
+fn answer_all(rt: &HostRuntime, device: &mut Device<FileFlash>, state: &str) -> io::Result<()> {
     println!(rt; "power")?;
     let mut time = 0;
     for line in rt.lines(rt.alloc()) {
         let line = line?;
         if line.as_str() == "show" {
-            show(rt, &device)?;
+            show(rt, device)?;
         } else {
-            let Some(word) = act(&mut device, &mut time, line.as_bytes()) else {
+            let Some(word) = act(device, &mut time, line.as_bytes()) else {
                 return Err(wrong());
             };
-            answer(rt, &mut device, state, word)?;
+            answer(rt, device, state, word)?;
         }
     }
     Ok(())

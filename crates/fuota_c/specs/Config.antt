@@ -5,6 +5,7 @@ use Rattle.mc_keys.specs.declared.root_kind.RootKind.TheVariants.{V10, V11}
 use Rattle.device_core.specs.declared.config.Class.{Class}
 use Rattle.device_core.specs.declared.config.Class.TheVariants.{A, C}
 use Rattle.device_core.specs.declared.config.DeviceConfig.{DeviceConfig}
+use Rattle.device_core.specs.Configuration.{at_full_size}
 use Rattle.device_core.specs.HeldDevice.{can_reserve}
 use Rattle.fuota_c.specs.declared.config.ConfigFields.{ConfigFields}
 
@@ -43,4 +44,4 @@ held_config_of fields span = record (config_of fields) { held = true; span = spa
 
 -- each number is within its bounds, and a flash of these bytes has room
 abbrev pub fits : DeviceConfig → (bytes : List ℕ) → Bool
-fits config bytes = nat_lt (length bytes) (2 ^ 32) && can_reserve config (length bytes)
+fits config bytes = nat_lt (length bytes) (2 ^ 32) && can_reserve (at_full_size config) (length bytes)

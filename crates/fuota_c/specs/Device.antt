@@ -5,6 +5,9 @@ use Rattle.package_grammar.specs.declared.downlink.To.{To}
 use Rattle.package_grammar.specs.declared.downlink.To.TheVariants.{Unicast, Group}
 use Rattle.package_grammar.specs.declared.downlink.Downlink.{Downlink}
 use Rattle.frag_session.specs.Session.{view_of}
+use Rattle.session_store.specs.declared.sizes.SessionSize.{SessionSize}
+use Rattle.session_store.specs.Size.{size_with}
+use Rattle.device_core.specs.Configuration.{Configuration, configured}
 use Rattle.device_core.specs.declared.config.DeviceConfig.{DeviceConfig}
 use Rattle.device_core.specs.declared.delivered.Delivered.{Delivered}
 use Rattle.device_core.specs.declared.delivered.Delivered.TheVariants as delivered
@@ -24,6 +27,7 @@ use Rattle.device_core.specs.HeldSessions.{IsUp, IsDown}
 use Rattle.c_base.specs.Answer.{done, nothing, range, no_memory, refused, deaf, full, foreign, down, flash}
 use Rattle.c_base.specs.Bytes.{IsPut, Copied}
 use Rattle.fuota_c.specs.Config.{fits}
+use Rattle.fuota_c.specs.Size.{size_number}
 use Rattle.fuota_c.specs.declared.device.ArrivalFields.{ArrivalFields}
 use Rattle.fuota_c.specs.declared.device.UplinkFields.{UplinkFields}
 use Rattle.fuota_c.specs.declared.shown.ViewFields.{ViewFields}
@@ -32,15 +36,31 @@ use Rattle.fuota_c.specs.Shown.{IsShown, file_or_none}
 -- ---- a new device
 
 -- a device at its start, over a flash of these bytes
-pub record IsFirst (config : DeviceConfig) (bytes : List ℕ) (x : HeldDevice Cells) : Type 0 where
+pub record IsFirst (config : Configuration) (bytes : List ℕ) (x : HeldDevice Cells) : Type 0 where
   pub flash : x.sessions.flash.bytes ≡ bytes
   pub starts : Starts config x.sessions.flash x
 
+-- what it is made of: the number of its size, its configuration, and the bytes of its flash
+pub record Parts : Type 0 where
+  pub size : ℕ
+  pub config : DeviceConfig
+  pub bytes : List ℕ
+
+-- each number is within its bounds, the size's too, and the flash has room
+abbrev pub CanMake : Parts → Type 0
+CanMake parts = (parts.size ≤ 2) × IsTrue (fits parts.config parts.bytes)
+
+abbrev pub CanNotMake : Parts → Type 0
+CanNotMake parts = (2 < parts.size) ⊎ IsTrue (not (fits parts.config parts.bytes))
+
+-- the device is of that size
+abbrev pub OfSize : Parts → (Configuration → Type 0) → Type 0
+OfSize parts Is = (size : SessionSize) × (parts.size ≡ size_number size) × Is (configured (size_with size) parts.config)
+
 -- there is none where a number is out of its bounds, the flash has no room, or memory was missing
-abbrev pub IsNewDevice : DeviceConfig → (bytes : List ℕ) → Option (HeldDevice Cells) → (answer : ℕ) → Type 0
-IsNewDevice config bytes (Some x) answer = (answer ≡ done) × IsTrue (fits config bytes) × IsFirst config bytes x
-IsNewDevice config bytes None answer =
-    ((answer ≡ range) × IsTrue (not (fits config bytes))) ⊎ ((answer ≡ no_memory) × IsTrue (fits config bytes))
+abbrev pub IsNewDevice : Parts → Option (HeldDevice Cells) → (answer : ℕ) → Type 0
+IsNewDevice parts (Some x) answer = (answer ≡ done) × CanMake parts × OfSize parts (λ config. IsFirst config parts.bytes x)
+IsNewDevice parts None answer = ((answer ≡ range) × CanNotMake parts) ⊎ ((answer ≡ no_memory) × CanMake parts)
 
 -- ---- what comes
 

@@ -2,6 +2,7 @@ pub mod Held
 pub mod Shown
 pub mod Receiver
 pub mod Decoded
+pub mod Size
 pub mod Config
 pub mod Device
 pub mod Flash

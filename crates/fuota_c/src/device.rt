@@ -1,6 +1,6 @@
 //! A device of all four packages.
 
-ghost use Rattle.std.specs.Prelude.{◌≡◌, ◌≤◌, None, [], length};
+ghost use Rattle.std.specs.Prelude.{◌≡◌, ◌≤◌, Some, None, [], length, MatchResult};
 ghost use Rattle.wire_base.specs.Payload.{max_payload};
 ghost use Rattle.c_base.specs.Answer.{done, no_object};
 ghost use Rattle.c_base.specs.Calls.{Does, Tells};
@@ -10,6 +10,7 @@ ghost use Rattle.fuota_c.specs.Device.{IsNewDevice, DeliversOrNot, WakesOrNot, T
 use crate::config::{ConfigFields, config_of, fits};
 use crate::device_handle::DeviceHandle;
 use crate::shown::{ViewFields, file_in, show};
+use crate::size::size_of;
 use c_base::answer::{
     DEAF, DONE, DOWN, FLASH, FULL, NO_MEMORY, NO_OBJECT, NOTHING, RANGE, REFUSED,
 };
@@ -50,40 +51,76 @@ pub struct UplinkFields {
 }
 
 /// Frees what was there, and puts a new device into the handle, with all memory that it ever needs: done; out of range where a
-/// number of the configuration is, or no memory, and then there is no device.
+/// number of the configuration is, or at a size above 2, or no memory, and then there is no device. Each of its sessions has room
+/// for 256 pieces and 16 rows of 48 bytes at size 0, for 1,024 pieces and 64 rows of 48 bytes at 1, and for any file at 2.
 #[unsafe(no_mangle)]
 pub extern "C" fn fuota_device_new(
     handle: &mut DeviceHandle,
     alloc: Global,
+    size: u8,
     config: &ConfigFields,
 ) -> u8
-    ensures { IsNewDevice (config_of config.now) [] handle.new.held result }
+    ensures { IsNewDevice (record { size = size; config = config_of config.now; bytes = [] })
+        handle.new.held result }
 {
-    put_new(handle, alloc, config_of(config), &[])
+    put_new(handle, alloc, size, config_of(config), &[])
 }
 
 /// Frees what was there, and puts a new device over a flash of these bytes into the handle.
-pub fn put_new(handle: &mut DeviceHandle, alloc: Global, config: DeviceConfig, bytes: &[u8]) -> u8
-    ensures { IsNewDevice config bytes.now handle.new.held result }
+pub fn put_new(
+    handle: &mut DeviceHandle,
+    alloc: Global,
+    size: u8,
+    config: DeviceConfig,
+    bytes: &[u8],
+) -> u8
+    ensures { IsNewDevice (record { size = size; config = config; bytes = bytes.now })
+        handle.new.held result }
 {
     fuota_device_free(handle, alloc);
+    match made(alloc, size, config, bytes) {
+        Ok(device) => {
+            // What the handle had is dropped.
+            let _none = handle.replace(Handle::of(device)).into_box();
+            DONE
+        }
+        Err(answer) => answer,
+    }
+}
+
+/// Makes a device over a flash of these bytes, or answers why there is none. It is never inlined, so that no caller has the
+/// devices on its stack that are moved here.
+#[inline(never)]
+pub fn made(
+    alloc: Global,
+    size: u8,
+    config: DeviceConfig,
+    bytes: &[u8],
+) -> Result<Box<Device<CellFlash>>, u8>
+    ensures { MatchResult result
+        (λ x. IsNewDevice (record { size = size; config = config; bytes = bytes.now })
+        (Some x.value) done)
+        (λ answer. IsNewDevice (record { size = size; config = config; bytes = bytes.now })
+        None answer) }
+{
+    let Some(size) = size_of(size) else {
+        return Err(RANGE);
+    };
     if !fits(&config, bytes) {
-        return RANGE;
+        return Err(RANGE);
     }
     let Ok(flash) = CellFlash::of_bytes(alloc, bytes) else {
-        return NO_MEMORY;
+        return Err(NO_MEMORY);
     };
-    let device = match Device::reserve(alloc, config, flash) {
+    let device = match Device::reserve_sized(alloc, config, size, flash) {
         Ok(device) => device,
-        Err(ReserveError::BadConfig) => return RANGE,
-        Err(ReserveError::Memory) => return NO_MEMORY,
+        Err(ReserveError::BadConfig) => return Err(RANGE),
+        Err(ReserveError::Memory) => return Err(NO_MEMORY),
     };
-    let Ok(device) = Box::new(alloc, device) else {
-        return NO_MEMORY;
-    };
-    // What the handle had is dropped.
-    let _none = handle.replace(Handle::of(device)).into_box();
-    DONE
+    match Box::new(alloc, device) {
+        Ok(device) => Ok(device),
+        Err(_) => Err(NO_MEMORY),
+    }
 }
 
 /// Frees the device, if there is one; the handle has none afterwards.

@@ -25,13 +25,16 @@ use std::alloc::Global;
 pub extern "C" fn fuota_device_new_in_flash(
     handle: &mut DeviceHandle,
     alloc: Global,
+    size: u8,
     config: &ConfigFields,
     span: u32,
     flash: &[u8],
 ) -> u8
-    ensures { IsNewDevice (held_config_of config.now span) flash.now handle.new.held result }
+    ensures { IsNewDevice
+        (record { size = size; config = held_config_of config.now span; bytes = flash.now })
+        handle.new.held result }
 {
-    put_new(handle, alloc, held_config_of(config, span), flash)
+    put_new(handle, alloc, size, held_config_of(config, span), flash)
 }
 
 /// Does what `fuota_device_restore` does, for a device whose sessions are held in a flash of these bytes, each in `span` of
@@ -40,6 +43,7 @@ pub extern "C" fn fuota_device_new_in_flash(
 pub extern "C" fn fuota_device_restore_in_flash(
     handle: &mut DeviceHandle,
     alloc: Global,
+    size: u8,
     config: &ConfigFields,
     span: u32,
     flash: &[u8],
@@ -47,12 +51,14 @@ pub extern "C" fn fuota_device_restore_in_flash(
     running: &[u8],
     next: &[u8],
 ) -> u8
-    ensures { IsDeviceBack (held_config_of config.now span) flash.now saved.now running.now
-        next.now handle.new.held result }
+    ensures { IsDeviceBack
+        (record { size = size; config = held_config_of config.now span; bytes = flash.now })
+        saved.now running.now next.now handle.new.held result }
 {
     put_back(
         handle,
         alloc,
+        size,
         held_config_of(config, span),
         flash,
         saved,

@@ -14,6 +14,7 @@ mod receiver;
 mod receiver_handle;
 mod saving;
 mod shown;
+mod size;
 mod sized_receiver;
 mod telling;
 mod version;

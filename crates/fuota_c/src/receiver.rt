@@ -1,16 +1,17 @@
 //! A receiver of one file at a time.
 
-ghost use Rattle.std.specs.Prelude.{◌≡◌, ◌<◌, None, IfSome, IsNone, Option};
+ghost use Rattle.std.specs.Prelude.{◌≡◌, None, Option};
 ghost use Rattle.frag_session.specs.Session.{Session, view_of, status_of};
 ghost use Rattle.frag_session.specs.declared.answers.Via.TheVariants.{Unicast};
 ghost use Rattle.c_base.specs.Answer.{no_object, no_receiver};
 ghost use Rattle.c_base.specs.Calls.{Does, Tells};
 ghost use Rattle.fuota_c.specs.Shown.{IsShown};
-ghost use Rattle.fuota_c.specs.Receiver.{IsNewReceiver, SetsUp, HearsOrNot, IsFileCopy, IsStatus, ReceiverStands, answer_bytes, setup_of, size_of, size_number};
+ghost use Rattle.fuota_c.specs.Receiver.{IsNewReceiver, SetsUp, HearsOrNot, IsFileCopy, IsStatus, ReceiverStands, answer_bytes, setup_of, size_of};
 
 use crate::receiver_handle::ReceiverHandle;
 use crate::shown::{ViewFields, file_in, show};
-use crate::sized_receiver::{Receiver, Size, hear, new_receiver, set_up, status, view};
+use crate::size::size_of;
+use crate::sized_receiver::{Receiver, hear, new_receiver, set_up, status, view};
 use c_base::answer::{DONE, NO_MEMORY, NO_OBJECT, NO_RECEIVER, RANGE};
 use c_base::{Handle, copy_part, put_whole};
 use cast_wire::{Cmd, FRAGMENT_PORT};
@@ -53,19 +54,6 @@ pub extern "C" fn fuota_receiver_new(handle: &mut ReceiverHandle, alloc: Global,
     // What the handle had is dropped.
     let _none = handle.replace(Handle::of(receiver)).into_box();
     DONE
-}
-
-/// The size with a number.
-fn size_of(number: u8) -> Option<Size>
-    ensures some { IfSome result (λ size. number ≡ size_number size) }
-    ensures none { IsNone result → 2 < number }
-{
-    match number {
-        0 => Some(Size::Small),
-        1 => Some(Size::Middle),
-        2 => Some(Size::Large),
-        _ => None,
-    }
 }
 
 /// Frees the receiver, where there is one; the handle has none afterwards.

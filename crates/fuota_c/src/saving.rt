@@ -6,12 +6,12 @@ ghost use Rattle.c_base.specs.Calls.{Tells};
 ghost use Rattle.fuota_c.specs.Config.{config_of};
 ghost use Rattle.fuota_c.specs.Saving.{IsDeviceBack, SavesTo, slot_file};
 
-use crate::config::{ConfigFields, config_of, fits};
-use crate::device::fuota_device_free;
+use crate::config::{ConfigFields, config_of};
+use crate::device::{fuota_device_free, made};
 use crate::device_handle::DeviceHandle;
-use c_base::answer::{CORRUPT, DONE, NO_MEMORY, RANGE};
+use c_base::answer::{CORRUPT, DONE};
 use c_base::{Handle, copy_part, put_whole};
-use device_core::{Device, DeviceConfig, RestoreError};
+use device_core::{Device, DeviceConfig};
 use flash_session::CellFlash;
 use std::alloc::Global;
 
@@ -71,46 +71,51 @@ fn slot_file(device: &Device<CellFlash>, is_next: bool) -> &[u8]
 pub extern "C" fn fuota_device_restore(
     handle: &mut DeviceHandle,
     alloc: Global,
+    size: u8,
     config: &ConfigFields,
     saved: &[u8],
     running: &[u8],
     next: &[u8],
 ) -> u8
-    ensures { IsDeviceBack (config_of config.now) [] saved.now running.now next.now
-        handle.new.held result }
+    ensures { IsDeviceBack (record { size = size; config = config_of config.now; bytes = [] })
+        saved.now running.now next.now handle.new.held result }
 {
-    put_back(handle, alloc, config_of(config), &[], saved, running, next)
+    put_back(
+        handle,
+        alloc,
+        size,
+        config_of(config),
+        &[],
+        saved,
+        running,
+        next,
+    )
 }
 
 /// Frees what was there, and puts the device that saved these bytes, over a flash of those, into the handle.
 pub fn put_back(
     handle: &mut DeviceHandle,
     alloc: Global,
+    size: u8,
     config: DeviceConfig,
     flash: &[u8],
     saved: &[u8],
     running: &[u8],
     next: &[u8],
 ) -> u8
-    ensures { IsDeviceBack config flash.now saved.now running.now next.now handle.new.held result }
+    ensures { IsDeviceBack (record { size = size; config = config; bytes = flash.now })
+        saved.now running.now next.now handle.new.held result }
 {
     fuota_device_free(handle, alloc);
-    if !fits(&config, flash) {
-        return RANGE;
+    match made(alloc, size, config, flash) {
+        Ok(mut device) => {
+            if !device.resume(saved, running, next) {
+                return CORRUPT;
+            }
+            // What the handle had is dropped.
+            let _none = handle.replace(Handle::of(device)).into_box();
+            DONE
+        }
+        Err(answer) => answer,
     }
-    let Ok(cells) = CellFlash::of_bytes(alloc, flash) else {
-        return NO_MEMORY;
-    };
-    let device = match Device::restore(alloc, config, cells, saved, running, next) {
-        Ok(device) => device,
-        Err(RestoreError::BadConfig) => return RANGE,
-        Err(RestoreError::Corrupt) => return CORRUPT,
-        Err(RestoreError::Memory) => return NO_MEMORY,
-    };
-    let Ok(device) = Box::new(alloc, device) else {
-        return NO_MEMORY;
-    };
-    // What the handle had is dropped.
-    let _none = handle.replace(Handle::of(device)).into_box();
-    DONE
 }

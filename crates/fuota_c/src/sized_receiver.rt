@@ -10,18 +10,8 @@ ghost use Rattle.fuota_c.specs.Receiver.{ReceiverStands, SetsUp, Hears, Answers,
 use cast_wire::fragment_at;
 use frag_session::{Idle, Limits, SetupReq, Slot, StatusAns, Via, View};
 use row_elimination::{Memory, Solver};
+use session_store::SessionSize;
 use std::alloc::Global;
-
-/// What a receiver has room for, as a number of the header.
-#[derive(Clone, Copy, Debug, PartialEq, Eq)]
-pub enum Size {
-    /// 256 pieces of 48 bytes, and 16 rows for coded fragments.
-    Small,
-    /// 1,024 pieces of 48 bytes, and 64 rows.
-    Middle,
-    /// 4,096 pieces of 64 bytes, and 256 rows.
-    Large,
-}
 
 /// A row takes a word for each 64 pieces, and the bytes of a piece.
 #[derive(Drop)]
@@ -31,20 +21,21 @@ pub enum Receiver {
     Large(Slot<16384, 16384>),
 }
 
-/// Takes all memory that a receiver of a size ever uses.
-pub fn new_receiver(alloc: Global, size: Size) -> Result<Receiver, Memory>
+/// Takes all memory that a receiver of a size ever uses: for 256 pieces of 48 bytes and 16 rows for coded fragments, 1,024 of 48
+/// and 64 rows, or 4,096 of 64 and 256 rows.
+pub fn new_receiver(alloc: Global, size: SessionSize) -> Result<Receiver, Memory>
     ensures { IfOk result (λ receiver. ReceiverStands size receiver None) }
 {
     match size {
-        Size::Small => {
+        SessionSize::Small => {
             let solver = Solver::reserve_for(alloc, 256 * 48, 256)?;
             Ok(Receiver::Small(Slot::new(Idle::new(solver))))
         }
-        Size::Middle => {
+        SessionSize::Middle => {
             let solver = Solver::reserve_for(alloc, 1024 * 48, 1024)?;
             Ok(Receiver::Middle(Slot::new(Idle::new(solver))))
         }
-        Size::Large => {
+        SessionSize::Large => {
             let solver = Solver::reserve_for(alloc, 4096 * 64, 4096)?;
             Ok(Receiver::Large(Slot::new(Idle::new(solver))))
         }

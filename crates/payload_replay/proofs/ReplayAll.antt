@@ -10,7 +10,7 @@ use Rattle.frag_session.specs.Session.{Session, cause_of, drop_cause, followed, 
 use Rattle.cast_wire.specs.declared.cmd.Cmd.TheVariants.{FragSessionSetupReq, FragSessionDeleteReq, DataFragment}
 use Rattle.package_grammar.specs.declared.command.Command.{Command}
 use Rattle.package_grammar.specs.declared.command.Command.TheVariants.{Cast}
-use Rattle.device_core.specs.declared.config.DeviceConfig.{DeviceConfig}
+use Rattle.device_core.specs.Configuration.{Configuration}
 use Rattle.payload_replay.specs.Carried.{CarriedCommand, carried, after_command, session_behind, leaves}
 use Rattle.payload_replay.proofs.ReplayExact.{behind_more}
 
@@ -54,7 +54,7 @@ either : (s other : Option Session) (t : Session) (b : Bool) → (other ≡ Some
 either s other t true step is = step is
 either s other t false step is = itself s t is
 
-command_leaves : (config : DeviceConfig) (index line : ℕ) (s : Option Session) (t : Session) (c : Command)
+command_leaves : (config : Configuration) (index line : ℕ) (s : Option Session) (t : Session) (c : Command)
     → leaves index c ≡ true → after_command config index line s c ≡ Some t → Precedes s t
 unfolding after_command
 command_leaves config index line s t
@@ -67,7 +67,7 @@ command_leaves config index line s t c left is = itself s t is
 
 -- ---- commands
 
-commands_leave : (config : DeviceConfig) (index : ℕ) (s : Option Session) (t : Session) (cs : List CarriedCommand)
+commands_leave : (config : Configuration) (index : ℕ) (s : Option Session) (t : Session) (cs : List CarriedCommand)
     → AllByRecursion (λ c. leaves index c.command ≡ true) cs → session_behind config index s cs ≡ Some t → Precedes s t
 unfolding session_behind
 commands_leave config index s t [] left is = itself s t is
@@ -103,7 +103,7 @@ unfolding after_fragment drop_cause
 fed None x f none is = absurd cc
 fed (Some y) x f none is = fed_by y x f (is_none (cause_of y.setup Unicast f.number f.part)) refl none is
 
-fed_there : (config : DeviceConfig) (index : ℕ) (s : Option Session) (x : Session) (f : Fragment)
+fed_there : (config : Configuration) (index : ℕ) (s : Option Session) (x : Session) (f : Fragment)
     → cause_of x.setup Unicast f.number f.part ≡ None
     → after_command config index f.mark s (Cast (DataFragment index f.number f.part)) ≡ Some x → In f x.heard
 unfolding after_command
@@ -112,7 +112,7 @@ fed_there config index s x f none is =
     (subst (λ (b : Bool). cond b (after_fragment s Unicast f.number f.part f.mark) s ≡ Some x) (eq-eqb index index refl) is)
 
 -- a session that is there after all commands heard it
-pub all_heard : (config : DeviceConfig) (index : ℕ) (t : Session) (f : Fragment) (before behind : List CarriedCommand)
+pub all_heard : (config : Configuration) (index : ℕ) (t : Session) (f : Fragment) (before behind : List CarriedCommand)
     → AllByRecursion (λ c. leaves index c.command ≡ true) behind → cause_of t.setup Unicast f.number f.part ≡ None
     → session_behind config index None (before ++ carried f.mark (Cast (DataFragment index f.number f.part)) ∷ behind) ≡ Some t
     → In f t.heard

@@ -13,7 +13,7 @@ use Rattle.frag_session.specs.declared.answers.Via.TheVariants.{Unicast}
 use Rattle.frag_session.specs.declared.setups.SetupReq.{SetupReq}
 use Rattle.frag_session.specs.Session.{Session, after_setup, after_fragment, drop_cause}
 use Rattle.device_core.specs.declared.arrival.Arrival.{Arrival}
-use Rattle.device_core.specs.declared.config.DeviceConfig.{DeviceConfig}
+use Rattle.device_core.specs.Configuration.{Configuration}
 use Rattle.device_core.specs.declared.config.Class.{Class}
 use Rattle.device_core.specs.declared.config.Class.TheVariants as class
 use Rattle.device_core.specs.declared.delivered.Delivered.{Delivered}
@@ -98,32 +98,32 @@ message_small (c ∷ cs) bytes at end all =
     (spelled_small c bytes at all.0 all.1, message_small cs bytes all.0 end all.2)
 
 -- the device is configured so, and its sessions are those
-abbrev Holds : DeviceConfig → Told → DeviceState → Type 0
+abbrev Holds : Configuration → Told → DeviceState → Type 0
 Holds config told d = (d.config ≡ config) × Are told d.sessions
 
 -- a payload on port 201 arrives at a line
 abbrev at_line : ℕ → Arrival
 at_line n = record { moment = record { t = 0; word = 0; mark = n }; via = Unicast; port = 201 }
 
-either : (config : DeviceConfig) (told : Told) (b : Bool) (one other : DeviceState) → Holds config told one
+either : (config : Configuration) (told : Told) (b : Bool) (one other : DeviceState) → Holds config told one
     → Holds config told other → Holds config told (cond b one other)
 either config told true one other h k = h
 either config told false one other h k = k
 
-either_step : (config : DeviceConfig) (told : Told) (b : Bool) (one other : DeviceStep) → Holds config told one.device
+either_step : (config : Configuration) (told : Told) (b : Bool) (one other : DeviceStep) → Holds config told one.device
     → Holds config told other.device → Holds config told (cond b one other).device
 either_step config told true one other h k = h
 either_step config told false one other h k = k
 
-set_up : (config : DeviceConfig) (told : Told) (n : ℕ) (d : DeviceState) (req : SetupReq) → req.index < 4
+set_up : (config : Configuration) (told : Told) (n : ℕ) (d : DeviceState) (req : SetupReq) → req.index < 4
     → Holds config told d
     → Holds config (λ index. cond (req.index == index) (after_setup (limits_of config) (room_of config) (told index) req) (told index))
     (setup_step (at_line n) d req).device
 unfolding setup_step
 set_up config told n d req small h =
-    let next : DeviceConfig → Option Session → Option Session = λ k s. after_setup (limits_of k) (room_of k) s req in (
+    let next : Configuration → Option Session → Option Session = λ k s. after_setup (limits_of k) (room_of k) s req in (
       h.0,
-      subst (λ (k : DeviceConfig). Are (λ index. cond (req.index == index) (next config (told index)) (told index))
+      subst (λ (k : Configuration). Are (λ index. cond (req.index == index) (next config (told index)) (told index))
           (with_session d.sessions req.index (next k (session_at d.sessions req.index)))) (sym h.0)
           (moves d.sessions told req.index (next config) small h.1),
     )
@@ -134,7 +134,7 @@ dropped : (s : Option Session) (n : ℕ) (part : List ℕ) (mark : ℕ) → is_n
 unfolding after_fragment
 dropped s n part mark is = rw is refl
 
-fragment : (config : DeviceConfig) (told : Told) (line : ℕ) (d : DeviceState) (k n : ℕ) (part : List ℕ) → k < 4
+fragment : (config : Configuration) (told : Told) (line : ℕ) (d : DeviceState) (k n : ℕ) (part : List ℕ) → k < 4
     → Holds config told d
     → Holds config (λ index. cond (k == index) (after_fragment (told index) Unicast n part line) (told index))
     (fragment_step (at_line line) d k n part).device
@@ -147,10 +147,10 @@ fragment config told line d k n part small h = by_cause (is_none (drop_cause (se
     by_cause true is = rw is (h.0, moves d.sessions told k (λ s. after_fragment s Unicast n part line) small h.1)
     by_cause false is = rw is (h.0, stays d.sessions told k (λ s. after_fragment s Unicast n part line) small (dropped (session_at d.sessions k) n part line is) h.1)
 
-after_one : DeviceConfig → Told → ℕ → Command → Told
+after_one : Configuration → Told → ℕ → Command → Told
 after_one config told line c = λ index. after_command config index line (told index) c
 
-command_holds : (config : DeviceConfig) (told : Told) (line : ℕ) (d : DeviceState) (c : Command) → index_of c < 4
+command_holds : (config : Configuration) (told : Told) (line : ℕ) (d : DeviceState) (c : Command) → index_of c < 4
     → Holds config told d → Holds config (after_one config told line c) (command_step (at_line line) d c).device
 unfolding after_one after_command command_step answer_step periodicity_step resync_step status_step groups_step
     group_setup_step group_delete_step class_session_step version_step upgrade_step delete_image_step reboot_time_step
@@ -167,12 +167,12 @@ command_holds config told line d (Cast (McGroupDeleteReq id)) small h = either_s
 command_holds config told line d (Sync DevVersionReq) small h = h
 command_holds config told line d c small h = h
 
-step_holds : (config : DeviceConfig) (told : Told) (line : ℕ) (d : DeviceState) (c : Command) → index_of c < 4
+step_holds : (config : Configuration) (told : Told) (line : ℕ) (d : DeviceState) (c : Command) → index_of c < 4
     → Holds config told d → Holds config (after_one config told line c) (after_answers (step (at_line line) d c))
 unfolding step after_answers
 step_holds config told line d c small h = command_holds config told line d c small h
 
-commands_hold : (config : DeviceConfig) (told : Told) (line : ℕ) (d : DeviceState) (cs : List Command) → AreSmall cs
+commands_hold : (config : Configuration) (told : Told) (line : ℕ) (d : DeviceState) (cs : List Command) → AreSmall cs
     → Holds config told d
     → Holds config (λ index. session_behind config index (told index) (map (carried line) cs)) (after_commands (at_line line) d cs)
 unfolding AreSmall after_commands session_behind after_one
@@ -183,7 +183,7 @@ commands_hold config told line d (c ∷ cs) small h =
 
 -- ---- a payload
 
-message_holds : (config : DeviceConfig) (told : Told) (line : ℕ) (cs : List Command) (b : Bool) (one other : Outcome Delivered)
+message_holds : (config : Configuration) (told : Told) (line : ℕ) (cs : List Command) (b : Bool) (one other : Outcome Delivered)
     → Holds config told one.device
     → Holds config (λ index. session_behind config index (told index) (map (carried line) cs)) other.device
     → Holds config (λ index. session_behind config index (told index) (cond b [] (map (carried line) cs))) (cond b one other).device
@@ -191,7 +191,7 @@ unfolding session_behind
 message_holds config told line cs true one other h k = h
 message_holds config told line cs false one other h k = k
 
-read_holds : (config : DeviceConfig) (told : Told) (line : ℕ) (payload : List ℕ) (d : DeviceState) (r : Reading)
+read_holds : (config : Configuration) (told : Told) (line : ℕ) (payload : List ℕ) (d : DeviceState) (r : Reading)
     → IsReading 201 Down payload r → d.outbox ≡ [] → Holds config told d
     → Holds config (λ index. session_behind config index (told index) (carried_by line r)) (read_delivery (at_line line) d r).device
 unfolding read_delivery message_delivery session_behind
@@ -207,7 +207,7 @@ read_holds config told line payload d (Ok cs) reading empty h =
     (commands_hold config told line d cs (message_small cs payload 0 (length payload) reading.all) h))
 read_holds config told line payload d (Err refusal) reading empty h = h
 
-reboot_holds : (config : DeviceConfig) (told : Told) (d : DeviceState) → Holds config told d
+reboot_holds : (config : Configuration) (told : Told) (d : DeviceState) → Holds config told d
     → Holds config told (after_due_reboot 0 d)
 unfolding after_due_reboot
 reboot_holds config told d h = either config told _ _ d h h
@@ -221,24 +221,24 @@ unfolding after_due_reboot
 reboot_outbox d empty = outbox_by _ _ d empty empty
 
 -- its receiver is open
-if_open : (config : DeviceConfig) (told : Told) (b : Bool) (one other : Outcome Delivered) → b ≡ true
+if_open : (config : Configuration) (told : Told) (b : Bool) (one other : Outcome Delivered) → b ≡ true
     → Holds config told one.device → Holds config told (cond b one other).device
 if_open config told true one other is h = h
 if_open config told false one other is h = absurd cc
 
-heard_holds : (config : DeviceConfig) (told : Told) (line : ℕ) (payload : List ℕ) (d : DeviceState)
+heard_holds : (config : Configuration) (told : Told) (line : ℕ) (payload : List ℕ) (d : DeviceState)
     → config.class ≡ class.C → d.outbox ≡ [] → Holds config told d
     → Holds config (λ index. session_behind config index (told index) (carried_by line (reading_of 201 Down payload)))
     (heard_delivery 0 0 line (captured payload) d).device
 unfolding heard_delivery hears
 heard_holds config told line payload d c empty h =
     let hearing : hears_unicast d.config.class d.last_due 0 ≡ true =
-    ap (λ (k : DeviceConfig). hears_unicast k.class d.last_due 0) h.0
+    ap (λ (k : Configuration). hears_unicast k.class d.last_due 0) h.0
     ∙ ap (λ (k : Class). hears_unicast k d.last_due 0) c in
     if_open config (λ index. session_behind config index (told index) (carried_by line (reading_of 201 Down payload)))
     _ _ _ hearing (read_holds config told line payload d (reading_of 201 Down payload) (reads 201 Down payload) empty h)
 
-payload_holds : (config : DeviceConfig) (told : Told) (line : ℕ) (payload : List ℕ) (d : DeviceState)
+payload_holds : (config : Configuration) (told : Told) (line : ℕ) (payload : List ℕ) (d : DeviceState)
     → config.class ≡ class.C → d.outbox ≡ [] → Holds config told d
     → Holds config (λ index. session_behind config index (told index) (carried_by line (reading_of 201 Down payload)))
     (after_payload line payload d)
@@ -250,13 +250,13 @@ payload_holds config told line payload d c empty h =
 
 -- ---- all lines
 
-pub behind_more : (config : DeviceConfig) (index : ℕ) (s : Option Session) (some more : List CarriedCommand)
+pub behind_more : (config : Configuration) (index : ℕ) (s : Option Session) (some more : List CarriedCommand)
     → session_behind config index (session_behind config index s some) more ≡ session_behind config index s (some ++ more)
 unfolding session_behind
 behind_more config index s [] more = refl
 behind_more config index s (c ∷ cs) more = behind_more config index (after_command config index c.line s c.command) cs more
 
-line_holds : (config : DeviceConfig) (told : Told) (lines : ℕ) (d t : DeviceState) (rest : List (List ℕ))
+line_holds : (config : Configuration) (told : Told) (lines : ℕ) (d t : DeviceState) (rest : List (List ℕ))
     (r : Result (List ℕ) LineWhy) → config.class ≡ class.C → d.outbox ≡ [] → Holds config told d
     → ((next : DeviceState) (other : Told) → next.outbox ≡ [] → Holds config other next → TakesLines payload_of Hears (lines + 1) next rest (Ok t)
     → Holds config (λ index. session_behind config index (other index) (carried_after (lines + 1) rest)) t)
@@ -272,7 +272,7 @@ line_holds config told lines d t rest (Ok payload) c empty h more behind =
     let all = more behind.0 other (ap (λ (x : DeviceState). x.outbox) behind.1) here behind.2 in
     (all.0, as_well _ _ t.sessions (λ index. behind_more config index (told index) some (carried_after (lines + 1) rest)) all.1)
 
-lines_hold : (config : DeviceConfig) (told : Told) (lines : ℕ) (d t : DeviceState) (rest : List (List ℕ))
+lines_hold : (config : Configuration) (told : Told) (lines : ℕ) (d t : DeviceState) (rest : List (List ℕ))
     → config.class ≡ class.C → d.outbox ≡ [] → Holds config told d → TakesLines payload_of Hears lines d rest (Ok t)
     → Holds config (λ index. session_behind config index (told index) (carried_after lines rest)) t
 unfolding TakesLines carried_after session_behind

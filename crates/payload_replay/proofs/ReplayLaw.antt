@@ -9,7 +9,7 @@ use Rattle.frag_session.specs.declared.answers.Via.TheVariants.{Unicast}
 use Rattle.frag_session.specs.Session.{Session, Seen, cause_of, shape_of, seen_of, view_of}
 use Rattle.frag_session.specs.HeldHistory.{IsSetUp}
 use Rattle.script_lines.specs.Lines.{lines_of}
-use Rattle.device_core.specs.declared.config.DeviceConfig.{DeviceConfig}
+use Rattle.device_core.specs.Configuration.{Configuration}
 use Rattle.device_core.specs.SessionTable.{session_at}
 use Rattle.device_core.specs.Device.{DeviceState}
 use Rattle.report_lines.specs.declared.faults.LineWhy.{LineWhy}
@@ -76,7 +76,7 @@ all : (file header : List ℕ) (rows : ℕ) (payloads : List (List ℕ)) (device
     (f : Fragment) (before behind : List CarriedCommand) → IsReplayed file device index s → IsFileOf file header rows payloads
     → IsSince payloads index f before behind → cause_of s.setup Unicast f.number f.part ≡ None → In f s.heard
 all file header rows payloads device index s f before behind r its since none =
-    let config : DeviceConfig = (replay_device rows).config in
+    let config : Configuration = (replay_device rows).config in
     let there : session_behind config index None (carried_after 1 payloads) ≡ Some s =
     sym (exact file header rows payloads device index r.accepted its r.index_is) ∙ r.session_is in
     all_heard config index s f before behind since.left none

@@ -8,7 +8,7 @@ use Rattle.cast_wire.specs.declared.cmd.Cmd.TheVariants.{FragSessionSetupReq, Fr
 use Rattle.package_grammar.specs.declared.command.Command.{Command}
 use Rattle.package_grammar.specs.declared.command.Command.TheVariants.{Cast}
 use Rattle.package_grammar.specs.Reading.{Reading, reading_of}
-use Rattle.device_core.specs.declared.config.DeviceConfig.{DeviceConfig}
+use Rattle.device_core.specs.Configuration.{Configuration}
 use Rattle.device_core.specs.Device.{outbox_size, limits_of, room_of}
 use Rattle.device_core.specs.Fragments.{setup_of}
 use Rattle.device_core.specs.Step.{weights}
@@ -42,7 +42,7 @@ carried_after lines (line ∷ rest) = carried_in (lines + 1) (payload_of lines l
 -- ---- what a session is after them
 
 -- after a command at a line: a setup, a deletion or a fragment of its index changes it, and nothing else does
-unfoldable pub after_command : DeviceConfig → (index line : ℕ) → Option Session → Command → Option Session
+unfoldable pub after_command : Configuration → (index line : ℕ) → Option Session → Command → Option Session
 after_command config index line s (Cast (FragSessionSetupReq i mask nb_frag frag_size algo delay padding descriptor)) =
     if i == index
     then after_setup (limits_of config) (room_of config) s (setup_of i mask nb_frag frag_size algo delay padding descriptor)
@@ -53,7 +53,7 @@ after_command config index line s (Cast (DataFragment i n part)) =
 after_command config index line s command = s
 
 -- after commands, one after another
-unfoldable pub session_behind : DeviceConfig → (index : ℕ) → Option Session → List CarriedCommand → Option Session
+unfoldable pub session_behind : Configuration → (index : ℕ) → Option Session → List CarriedCommand → Option Session
 session_behind config index s [] = s
 session_behind config index s (c ∷ cs) = session_behind config index (after_command config index c.line s c.command) cs
 

@@ -5,7 +5,7 @@ use Rattle.frag_model.specs.Fragments.{Fragment}
 use Rattle.frag_session.specs.declared.setups.SetupReq.{SetupReq}
 use Rattle.frag_session.specs.Session.{Session, new_session}
 use Rattle.frag_session.specs.Setup.{setup_bits}
-use Rattle.row_elimination.specs.Room.{Extent, extent_for}
+use Rattle.row_elimination.specs.Room.{Extent}
 use Rattle.flash_session.specs.Body.{setup_at}
 use Rattle.flash_session.specs.Contents.{Same, Follows}
 use Rattle.flash_session.specs.HeldSession.{HeldSession, room_in}
@@ -16,9 +16,8 @@ use Rattle.flash_session.specs.Opening as foreign
 use Rattle.flash_session.specs.Replayed.{place_in}
 use Rattle.flash_session.proofs.Opened.{spelled_same}
 use Rattle.flash_session.proofs.StillHeld.{same_back}
-use Rattle.session_store.specs.declared.held_slots.Layout.{Layout}
 use Rattle.session_store.specs.HeldPlaces.{place_at}
-use Rattle.session_store.specs.Rows.{row_words, row_bytes}
+use Rattle.session_store.specs.Size.{SizedLayout, extent_in}
 
 setup_same : (b c : List ℕ) (at : ℕ) → Same b c → setup_at b at ≡ setup_at c at
 setup_same b c at same =
@@ -83,20 +82,20 @@ none_same h b c same none = λ header place there.
     none (sym (same.all h.base) ∙ header) place (foreign_same h c b place (same_back b c same) there)
 
 -- of a range that was opened nothing is foreign once the others are
-pub none_still : (l : Layout) (base : ℕ) (z : Extent) (holds0 holds : List ℕ → Type 0) → z ≡ extent_for l.area
-    → ((b : List ℕ) → holds0 b → NothingForeign (place_in row_words row_bytes base l.span l.limits z) b)
+pub none_still : (l : SizedLayout) (base : ℕ) (z : Extent) (holds0 holds : List ℕ → Type 0) → z ≡ extent_in l
+    → ((b : List ℕ) → holds0 b → NothingForeign (place_in l.size.words l.size.bytes base l.span l.limits z) b)
     → Follows Same holds0 holds → (b : List ℕ) → holds b → NothingForeign (place_at l base) b
 none_still l base z holds0 holds is none follows b now =
     let from = follows.from b now in
     none_same (place_at l base) from.0 b from.2
-    (subst (λ (y : Extent). NothingForeign (place_in row_words row_bytes base l.span l.limits y) from.0) is (none from.0 from.1))
+    (subst (λ (y : Extent). NothingForeign (place_in l.size.words l.size.bytes base l.span l.limits y) from.0) is (none from.0 from.1))
 
 -- the last that was opened, and the one that was not
-pub none_last : (l : Layout) (base : ℕ) (z : Extent) (b : List ℕ) → z ≡ extent_for l.area
-    → NothingForeign (place_in row_words row_bytes base l.span l.limits z) b → NothingForeign (place_at l base) b
-none_last l base z b is none = subst (λ (y : Extent). NothingForeign (place_in row_words row_bytes base l.span l.limits y) b) is none
+pub none_last : (l : SizedLayout) (base : ℕ) (z : Extent) (b : List ℕ) → z ≡ extent_in l
+    → NothingForeign (place_in l.size.words l.size.bytes base l.span l.limits z) b → NothingForeign (place_at l base) b
+none_last l base z b is none = subst (λ (y : Extent). NothingForeign (place_in l.size.words l.size.bytes base l.span l.limits y) b) is none
 
-pub first_foreign : (l : Layout) (base : ℕ) (z : Extent) (b : List ℕ) (place : ℕ) → z ≡ extent_for l.area
-    → IsFirstForeign (place_in row_words row_bytes base l.span l.limits z) b place → IsFirstForeign (place_at l base) b place
+pub first_foreign : (l : SizedLayout) (base : ℕ) (z : Extent) (b : List ℕ) (place : ℕ) → z ≡ extent_in l
+    → IsFirstForeign (place_in l.size.words l.size.bytes base l.span l.limits z) b place → IsFirstForeign (place_at l base) b place
 first_foreign l base z b place is first =
-    subst (λ (y : Extent). IsFirstForeign (place_in row_words row_bytes base l.span l.limits y) b place) is first
+    subst (λ (y : Extent). IsFirstForeign (place_in l.size.words l.size.bytes base l.span l.limits y) b place) is first

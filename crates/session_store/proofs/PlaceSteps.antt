@@ -8,7 +8,7 @@ use Rattle.frag_session.specs.Session.{Session, after_setup}
 use Rattle.frag_session.specs.Setup.{Room}
 use Rattle.frag_session.specs.declared.setups.Limits.{Limits}
 use Rattle.frag_session.specs.declared.setups.SetupReq.{SetupReq}
-use Rattle.row_elimination.specs.Room.{Extent, extent_for}
+use Rattle.row_elimination.specs.Room.{Extent}
 use Rattle.flash_session.specs.Apart.{AreApart}
 use Rattle.flash_session.specs.Contents.{Same, SameOutside, SameWithin, Follows}
 use Rattle.flash_session.specs.declared.flash.Failed.{Failed}
@@ -23,8 +23,7 @@ use Rattle.flash_session.proofs.Apart.{other_held, other_moments, both_moments}
 use Rattle.flash_session.proofs.Moments.{weaker}
 use Rattle.flash_session.proofs.Openable.{openable_same, lies_for}
 use Rattle.flash_session.proofs.StillHeld.{same_back, lies_for_same, still_held, given_too}
-use Rattle.session_store.specs.declared.held_slots.Layout.{Layout}
-use Rattle.session_store.specs.Rows.{row_words, row_bytes}
+use Rattle.session_store.specs.Size.{SizedLayout, extent_in}
 use Rattle.session_store.specs.SessionTable.{SessionTable, session_at, with_session}
 use Rattle.session_store.specs.HeldPlaces.{HeldPlaces, IsPlace, ArePlaces, Holding, base_at, place_at, room_at, Each, PlaceStands, PlacesStand, AreHeld, TableLies, TableOldOrNew, TableOldNoneOrNew, PlacesServe}
 use Rattle.session_store.proofs.ByIndex.{each4, all_at, all_set, each_with, each_set}
@@ -44,7 +43,7 @@ holding P Q R (Some h) to p q = to h p q
 
 -- ---- where they are
 
-ranges_apart : (l : Layout) (i : ℕ) → i < 4 → (j : ℕ) → j < 4 → i ≢ j → (base_at l i + l.span ≤ base_at l j) ⊎ (base_at l j + l.span ≤ base_at l i)
+ranges_apart : (l : SizedLayout) (i : ℕ) → i < 4 → (j : ℕ) → j < 4 → i ≢ j → (base_at l i + l.span ≤ base_at l j) ⊎ (base_at l j + l.span ≤ base_at l i)
 ranges_apart l =
     let Apart : ℕ → ℕ → Type 0 = λ i j. i ≢ j → (base_at l i + l.span ≤ base_at l j) ⊎ (base_at l j + l.span ≤ base_at l i) in
     each4 (λ i. (j : ℕ) → j < 4 → Apart i j)
@@ -53,14 +52,14 @@ ranges_apart l =
     (each4 (Apart 2) (λ ne. inr (omega arith)) (λ ne. inr (omega arith)) (λ ne. absurd (ne (omega arith))) (λ ne. inl (omega arith)))
     (each4 (Apart 3) (λ ne. inr (omega arith)) (λ ne. inr (omega arith)) (λ ne. inr (omega arith)) (λ ne. absurd (ne (omega arith))))
 
-apart : (l : Layout) (i j : ℕ) (k h : HeldSession) → i < 4 → j < 4 → i ≢ j → IsPlace k l (base_at l i) → IsPlace h l (base_at l j) → AreApart h.base h.span k.base k.span
+apart : (l : SizedLayout) (i j : ℕ) (k h : HeldSession) → i < 4 → j < 4 → i ≢ j → IsPlace k l (base_at l i) → IsPlace h l (base_at l j) → AreApart h.base h.span k.base k.span
 apart l i j k h li lj ne one two = elim (ranges_apart l i li j lj ne) [
   | inl before ↦ inr (omega (arith, before, one.base_is, one.span_is, two.base_is))
   | inr behind ↦ inl (omega (arith, behind, one.base_is, two.base_is, two.span_is))
 ]
 
 -- what is held at a place is there still
-place_again : (h k : HeldSession) (l : Layout) (base : ℕ) → IsPlace h l base → IsPlaceOf k row_words row_bytes h.base h.span h.limits (extent_of h.slot) → IsPlace k l base
+place_again : (h k : HeldSession) (l : SizedLayout) (base : ℕ) → IsPlace h l base → IsPlaceOf k l.size.words l.size.bytes h.base h.span h.limits (extent_of h.slot) → IsPlace k l base
 place_again h k l base was is = record {
   words_are = is.words_are;
   bytes_are = is.bytes_are;
@@ -72,7 +71,7 @@ place_again h k l base was is = record {
 
 -- ---- what is there does not depend on what is held
 
-lies_placed : (h : HeldSession) (l : Layout) (base : ℕ) (o : Option Session) (c : List ℕ) → IsPlace h l base → LiesForAs h o c → LiesForAs (place_at l base) o c
+lies_placed : (h : HeldSession) (l : SizedLayout) (base : ℕ) (o : Option Session) (c : List ℕ) → IsPlace h l base → LiesForAs h o c → LiesForAs (place_at l base) o c
 unfolding extent_of
 lies_placed h l base None c is none = subst (λ (b : ℕ). NoSession b c) is.base_is none
 lies_placed h l base (Some s) c is lies = record {
@@ -84,10 +83,10 @@ lies_placed h l base (Some s) c is lies = record {
   lies = subst (λ (b : ℕ). Lies b (stored_of s lies.body lies.tallies) c) is.base_is lies.lies;
 }
 
-abbrev LiesAt : Layout → SessionTable → List ℕ → ℕ → Type 0
+abbrev LiesAt : SizedLayout → SessionTable → List ℕ → ℕ → Type 0
 LiesAt l t c i = LiesForAs (place_at l (base_at l i)) (session_at t i) c
 
-table_of : (l : Layout) (t : SessionTable) (c : List ℕ) → ((i : ℕ) → i < 4 → LiesAt l t c i) → TableLies l t c
+table_of : (l : SizedLayout) (t : SessionTable) (c : List ℕ) → ((i : ℕ) → i < 4 → LiesAt l t c i) → TableLies l t c
 table_of l t c all = record { first = all 0 (lit< tt); second = all 1 (lit< tt); third = all 2 (lit< tt); fourth = all 3 (lit< tt) }
 
 -- ---- a call for one of them
@@ -106,7 +105,7 @@ module _ (p : HeldPlaces) (j : ℕ) (h : HeldSession) (lj : j < 4) (at : get_or 
   is_place : IsPlace h p.layout (base_at p.layout j)
   is_place = here (λ k. IsPlace k p.layout (base_at p.layout j)) _ h at (are.each j lj)
 
-  pub extent_held : extent_of h.slot ≡ extent_for p.layout.area
+  pub extent_held : extent_of h.slot ≡ extent_in p.layout
   extent_held = is_place.extent_is
 
   room_is : room_in h ≡ room_at p.layout
@@ -123,7 +122,7 @@ module _ (p : HeldPlaces) (j : ℕ) (h : HeldSession) (lj : j < 4) (at : get_or 
     long = are.long;
   }
 
-  pub places_on : (k : HeldSession) → IsPlaceOf k row_words row_bytes h.base h.span h.limits (extent_of h.slot) → ArePlaces (after_at p j k)
+  pub places_on : (k : HeldSession) → IsPlaceOf k p.layout.size.words p.layout.size.bytes h.base h.span h.limits (extent_of h.slot) → ArePlaces (after_at p j k)
   places_on k is = places_set k (place_again h k p.layout (base_at p.layout j) is_place is)
 
   pub it_has : (P : HeldSession → Option Session → Type 0) (t : SessionTable) → Each P p t → P h (session_at t j)
@@ -176,11 +175,11 @@ module _ (p : HeldPlaces) (j : ℕ) (h : HeldSession) (lj : j < 4) (at : get_or 
 -- ---- four are opened, one after another
 
 -- a place with memory of this extent
-pub placed : (h : HeldSession) (l : Layout) (base : ℕ) (z : Extent) → z ≡ extent_for l.area → IsPlaceOf h row_words row_bytes base l.span l.limits z → IsPlace h l base
-placed h l base z is place = subst (λ (y : Extent). IsPlaceOf h row_words row_bytes base l.span l.limits y) is place
+pub placed : (h : HeldSession) (l : SizedLayout) (base : ℕ) (z : Extent) → z ≡ extent_in l → IsPlaceOf h l.size.words l.size.bytes base l.span l.limits z → IsPlace h l base
+placed h l base z is place = subst (λ (y : Extent). IsPlaceOf h l.size.words l.size.bytes base l.span l.limits y) is place
 
 -- one that was opened is held once all are
-pub opened_still : (h : HeldSession) (l : Layout) (base : ℕ) (o : Option Session) (old new : FlashSeen)
+pub opened_still : (h : HeldSession) (l : SizedLayout) (base : ℕ) (o : Option Session) (old new : FlashSeen)
     → ((b : List ℕ) → old.holds b → LiesForAs (place_at l base) o b → IsHeldAs h o old) → IsPlace h l base → 24640 ≤ l.span
     → Follows Same old.holds new.holds → IsKept new → (b : List ℕ) → new.holds b → LiesForAs (place_at l base) o b → IsHeldAs h o new
 opened_still h l base o old new opens is long follows kept b now lies =
@@ -189,21 +188,21 @@ opened_still h l base o old new opens is long follows kept b now lies =
     still_held h o old new (omega (arith, long, is.span_is)) held follows kept
 
 -- the same where the memory was of this extent
-pub opened_place : (h : HeldSession) (l : Layout) (base : ℕ) (z : Extent) (o : Option Session) (old new : FlashSeen) → z ≡ extent_for l.area
-    → ((p : Option Session) (b : List ℕ) → old.holds b → LiesForAs (place_in row_words row_bytes base l.span l.limits z) p b → IsHeldAs h p old)
-    → IsPlaceOf h row_words row_bytes base l.span l.limits z → 24640 ≤ l.span
+pub opened_place : (h : HeldSession) (l : SizedLayout) (base : ℕ) (z : Extent) (o : Option Session) (old new : FlashSeen) → z ≡ extent_in l
+    → ((p : Option Session) (b : List ℕ) → old.holds b → LiesForAs (place_in l.size.words l.size.bytes base l.span l.limits z) p b → IsHeldAs h p old)
+    → IsPlaceOf h l.size.words l.size.bytes base l.span l.limits z → 24640 ≤ l.span
     → Follows Same old.holds new.holds → IsKept new → (b : List ℕ) → new.holds b → LiesForAs (place_at l base) o b → IsHeldAs h o new
 opened_place h l base z o old new is opens place long follows kept b now lies =
     opened_still h l base o old new
-    (λ d at its. opens o d at (subst (λ (y : Extent). LiesForAs (place_in row_words row_bytes base l.span l.limits y) o d) (sym is) its))
+    (λ d at its. opens o d at (subst (λ (y : Extent). LiesForAs (place_in l.size.words l.size.bytes base l.span l.limits y) o d) (sym is) its))
     (placed h l base z is place) long follows kept b now lies
 
 -- the last that was opened
-pub opened_for_last : (h : HeldSession) (l : Layout) (base : ℕ) (z : Extent) (o : Option Session) (seen : FlashSeen) → z ≡ extent_for l.area
-    → ((p : Option Session) (b : List ℕ) → seen.holds b → LiesForAs (place_in row_words row_bytes base l.span l.limits z) p b → IsHeldAs h p seen)
+pub opened_for_last : (h : HeldSession) (l : SizedLayout) (base : ℕ) (z : Extent) (o : Option Session) (seen : FlashSeen) → z ≡ extent_in l
+    → ((p : Option Session) (b : List ℕ) → seen.holds b → LiesForAs (place_in l.size.words l.size.bytes base l.span l.limits z) p b → IsHeldAs h p seen)
     → (b : List ℕ) → seen.holds b → LiesForAs (place_at l base) o b → IsHeldAs h o seen
 opened_for_last h l base z o seen is opens b now lies =
-    opens o b now (subst (λ (y : Extent). LiesForAs (place_in row_words row_bytes base l.span l.limits y) o b) (sym is) lies)
+    opens o b now (subst (λ (y : Extent). LiesForAs (place_in l.size.words l.size.bytes base l.span l.limits y) o b) (sym is) lies)
 
 -- what is held is held in memory too
 pub held_stands : (p : HeldPlaces) (t : SessionTable) (seen : FlashSeen) → AreHeld p t seen → PlacesStand p t
@@ -240,7 +239,7 @@ pub held_left : (p : HeldPlaces) (t : SessionTable) (seen : FlashSeen) → ArePl
 held_left p t seen are held c now = all_lie p t c (λ k o. IsHeldAs k o seen) are held (λ k o long its. lies_for k o seen (omega (arith, long)) its c now)
 
 -- what was there is still there, where nothing was written
-pub lies_still : (l : Layout) (t : SessionTable) (b c : List ℕ) → Same b c → TableLies l t b → TableLies l t c
+pub lies_still : (l : SizedLayout) (t : SessionTable) (b c : List ℕ) → Same b c → TableLies l t b → TableLies l t c
 lies_still l t b c same lies = record {
   first = lies_for_same (place_at l 0) t.first b c same lies.first;
   second = lies_for_same (place_at l l.span) t.second b c same lies.second;
@@ -249,10 +248,10 @@ lies_still l t b c same lies = record {
 }
 
 -- what a read gives after a failure is there for those that a stop might leave
-pub same_old_new : (l : Layout) (old new : SessionTable) (b c : List ℕ) → Same b c → TableOldOrNew l old new b → TableOldOrNew l old new c
+pub same_old_new : (l : SizedLayout) (old new : SessionTable) (b c : List ℕ) → Same b c → TableOldOrNew l old new b → TableOldOrNew l old new c
 same_old_new l old new b c same lies = elim lies [ inl was ↦ inl (lies_still l old b c same was) | inr is ↦ inr (lies_still l new b c same is) ]
 
-pub same_old_none_new : (l : Layout) (index : ℕ) (old new : SessionTable) (b c : List ℕ) → Same b c → TableOldNoneOrNew l index old new b → TableOldNoneOrNew l index old new c
+pub same_old_none_new : (l : SizedLayout) (index : ℕ) (old new : SessionTable) (b c : List ℕ) → Same b c → TableOldNoneOrNew l index old new b → TableOldNoneOrNew l index old new c
 same_old_none_new l index old new b c same lies = elim lies [
   | inl was ↦ inl (lies_still l old b c same was)
   | inr others ↦ elim others [ inl none ↦ inr (inl (lies_still l (with_session old index None) b c same none)) | inr is ↦ inr (inr (lies_still l new b c same is)) ]
@@ -268,14 +267,14 @@ module _ (p : HeldPlaces) (j : ℕ) (h : HeldSession) (lj : j < 4) (at : get_or 
   abbrev After : SessionTable → SessionTable
   After t = with_session t j (one (session_at t j))
 
-  its_moments : {A : Type 0} {old new : FlashSeen} (r : Result (HeldSession × A) Extent) → HeldServes row_words row_bytes h one mine old new r
+  its_moments : {A : Type 0} {old new : FlashSeen} (r : Result (HeldSession × A) Extent) → HeldServes p.layout.size.words p.layout.size.bytes h one mine old new r
       → (t : SessionTable) → AreHeld p t old → LeavesOnly (leaves t (After t)) old new
   its_moments {A} {old} {new} r serves t each =
       let o = session_at t j in
       let was = it_has p j h lj at are (λ k q. IsHeldAs k q old) t each in
       moments_on p j h lj at are t (mine o (one o)) each serves.serves.stops (serves.any_moment o was) (leaves t (After t)) (λ c its those again. out t c its those again)
 
-  pub answered : {A : Type 0} {old new : FlashSeen} (k : HeldSession) (x : A) → HeldServes row_words row_bytes h one mine old new (Ok (k, x))
+  pub answered : {A : Type 0} {old new : FlashSeen} (k : HeldSession) (x : A) → HeldServes p.layout.size.words p.layout.size.bytes h one mine old new (Ok (k, x))
       → PlacesServe After leaves p (after_at p j k) old new (Ok x)
   answered {A} {old} {new} k x serves = record {
     stands = λ t each.
@@ -293,7 +292,7 @@ module _ (p : HeldPlaces) (j : ℕ) (h : HeldSession) (lj : j < 4) (at : get_or 
     cause = record { later = serves.serves.cause.later; failed = tt };
   }
 
-  pub refused : {A B : Type 0} {old new : FlashSeen} (q : HeldPlaces) {z : Extent} {e : Failed} → q.layout ≡ p.layout → HeldServes {Answer = A} row_words row_bytes h one mine old new (Err z)
+  pub refused : {A B : Type 0} {old new : FlashSeen} (q : HeldPlaces) {z : Extent} {e : Failed} → q.layout ≡ p.layout → HeldServes {Answer = A} p.layout.size.words p.layout.size.bytes h one mine old new (Err z)
       → PlacesServe {Answer = B} After leaves p q old new (Err e)
   refused {A} {B} {old} {new} q {z} {e} laid serves = record {
     stands = λ t each. tt;
@@ -307,7 +306,7 @@ module _ (p : HeldPlaces) (j : ℕ) (h : HeldSession) (lj : j < 4) (at : get_or 
 
 -- a setup, in the words of the layout
 pub setup_placed : (p : HeldPlaces) (j : ℕ) (h : HeldSession) (lj : j < 4) (at : get_or p.sessions j None ≡ Some h) (are : ArePlaces p) (req : SetupReq) {A : Type 0} {old new : FlashSeen} {r : Result (HeldSession × A) Extent}
-    → HeldServes row_words row_bytes h (λ o. after_setup h.limits (room_in h) o req) (OldNoneOrNew h) old new r
-    → HeldServes row_words row_bytes h (λ o. after_setup p.layout.limits (room_at p.layout) o req) (OldNoneOrNew h) old new r
+    → HeldServes p.layout.size.words p.layout.size.bytes h (λ o. after_setup h.limits (room_in h) o req) (OldNoneOrNew h) old new r
+    → HeldServes p.layout.size.words p.layout.size.bytes h (λ o. after_setup p.layout.limits (room_at p.layout) o req) (OldNoneOrNew h) old new r
 setup_placed p j h lj at are req {A} {old} {new} {r} serves =
-    subst (λ (f : Option Session → Option Session). HeldServes row_words row_bytes h f (OldNoneOrNew h) old new r) (λ i o. after_is p j h lj at are req o i) serves
+    subst (λ (f : Option Session → Option Session). HeldServes p.layout.size.words p.layout.size.bytes h f (OldNoneOrNew h) old new r) (λ i o. after_is p j h lj at are req o i) serves

@@ -2,7 +2,7 @@
 use Rattle.std.specs.Prelude.{◌≡◌, ◌⊎◌, ℕ, ◌*◌, ◌<◌, ◌≤◌, ◌==◌, if◌then◌else◌, List, length, get_or, Option, Some, None, Result, OnOk, OnErr}
 use Rattle.frag_session.specs.Session.{Session}
 use Rattle.frag_session.specs.Setup.{Room}
-use Rattle.row_elimination.specs.Room.{extent_for}
+use Rattle.row_elimination.specs.Room.{Extent}
 use Rattle.flash_session.specs.Contents.{HasCause}
 use Rattle.flash_session.specs.declared.flash.Failed.{Failed}
 use Rattle.flash_session.specs.HeldSession.{HeldSession}
@@ -12,8 +12,7 @@ use Rattle.flash_session.specs.Replayed.{place_in, IsPlaceOf}
 use Rattle.flash_session.specs.Seen.{FlashSeen}
 use Rattle.flash_session.specs.Sessions.{LiesForAs, HeldStandsAs, CountsAs, IsHeldAs}
 use Rattle.session_store.specs.declared.held_slots.Idles.{Idles}
-use Rattle.session_store.specs.declared.held_slots.Layout.{Layout}
-use Rattle.session_store.specs.Rows.{row_words, row_bytes}
+use Rattle.session_store.specs.Size.{SizedLayout, extent_in}
 use Rattle.session_store.specs.SessionTable.{SessionTable, session_at, with_session}
 
 -- ---- where they are
@@ -21,14 +20,14 @@ use Rattle.session_store.specs.SessionTable.{SessionTable, session_at, with_sess
 -- what is held, by index, and the layout; within a call the place of one is empty
 pub record HeldPlaces : Type 0 where
   pub sessions : List (Option HeldSession)
-  pub layout : Layout
+  pub layout : SizedLayout
 
 -- a session begins there
-abbrev pub IsPlace : HeldSession → Layout → (base : ℕ) → Type 0
-IsPlace h l base = IsPlaceOf h row_words row_bytes base l.span l.limits (extent_for l.area)
+abbrev pub IsPlace : HeldSession → SizedLayout → (base : ℕ) → Type 0
+IsPlace h l base = IsPlaceOf h l.size.words l.size.bytes base l.span l.limits (extent_in l)
 
 -- that of index i begins at i times the bytes of one
-abbrev pub base_at : Layout → (index : ℕ) → ℕ
+abbrev pub base_at : SizedLayout → (index : ℕ) → ℕ
 base_at l index =
     if index == 0 then 0
     else if index == 1 then l.span
@@ -47,12 +46,12 @@ pub record ArePlaces (h : HeldPlaces) : Type 0 where
   pub long : records_place ≤ h.layout.span
 
 -- a place of which nothing is known
-abbrev pub place_at : Layout → (base : ℕ) → HeldSession
-place_at l base = place_in row_words row_bytes base l.span l.limits (extent_for l.area)
+abbrev pub place_at : SizedLayout → (base : ℕ) → HeldSession
+place_at l base = place_in l.size.words l.size.bytes base l.span l.limits (extent_in l)
 
 -- the room that each has
-abbrev pub room_at : Layout → Room
-room_at l = record { words = row_words; bytes = row_bytes; extent = extent_for l.area; span = Some l.span }
+abbrev pub room_at : SizedLayout → Room
+room_at l = record { words = l.size.words; bytes = l.size.bytes; extent = extent_in l; span = Some l.span }
 
 -- ---- what they stand for
 
@@ -73,27 +72,27 @@ abbrev pub AreHeld : HeldPlaces → SessionTable → FlashSeen → Type 0
 AreHeld h table seen = Each (λ k o. IsHeldAs k o seen) h table
 
 -- the four are there, so that opening gives them
-pub record TableLies (l : Layout) (table : SessionTable) (c : List ℕ) : Type 0 where
+pub record TableLies (l : SizedLayout) (table : SessionTable) (c : List ℕ) : Type 0 where
   pub first : LiesForAs (place_at l 0) table.first c
   pub second : LiesForAs (place_at l l.span) table.second c
   pub third : LiesForAs (place_at l (2 * l.span)) table.third c
   pub fourth : LiesForAs (place_at l (3 * l.span)) table.fourth c
 
 -- what a stop leaves of a call: those before it, or those after it
-abbrev pub TableOldOrNew : Layout → (old new : SessionTable) → List ℕ → Type 0
+abbrev pub TableOldOrNew : SizedLayout → (old new : SessionTable) → List ℕ → Type 0
 TableOldOrNew l old new c = TableLies l old c ⊎ TableLies l new c
 
 -- or none at an index in between
-abbrev pub TableOldNoneOrNew : Layout → (index : ℕ) → (old new : SessionTable) → List ℕ → Type 0
+abbrev pub TableOldNoneOrNew : SizedLayout → (index : ℕ) → (old new : SessionTable) → List ℕ → Type 0
 TableOldNoneOrNew l index old new c = TableLies l old c ⊎ TableLies l (with_session old index None) c ⊎ TableLies l new c
 
 -- ---- the memory of four
 
-pub record AreIdle (area : ℕ) (idles : Idles) : Type 0 where
-  pub first : idles.first ≡ extent_for area
-  pub second : idles.second ≡ extent_for area
-  pub third : idles.third ≡ extent_for area
-  pub fourth : idles.fourth ≡ extent_for area
+pub record AreIdle {W B : ℕ} (extent : Extent) (idles : Idles W B) : Type 0 where
+  pub first : idles.first ≡ extent
+  pub second : idles.second ≡ extent
+  pub third : idles.third ≡ extent
+  pub fourth : idles.fourth ≡ extent
 
 -- ---- a call for one of them
 

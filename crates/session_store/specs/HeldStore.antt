@@ -1,17 +1,21 @@
 -- What the sessions of a device are, wherever they are stored, with its flash, and for which they stand.
 use Rattle.std.specs.Prelude.{◌≡◌, ℕ, ◌*◌, ◌≤◌, Bool, true, false, List, Option, Some, None, Result, OnOk, OnErr, IfOk, MatchResult, is_ok}
 use Rattle.row_elimination.specs.Room.{extent_for}
+use Rattle.frag_session.specs.Setup.{Room}
 use Rattle.flash_session.specs.Contents.{HasCause}
 use Rattle.flash_session.specs.declared.fault.OpenFault.{OpenFault}
 use Rattle.flash_session.specs.declared.fault.OpenFault.TheVariants as why
 use Rattle.flash_session.specs.Layout.{records_place}
 use Rattle.flash_session.specs.Moments.{LeavesOnly}
 use Rattle.flash_session.specs.Seen.{FlashSeen}
-use Rattle.session_store.specs.declared.held_slots.Layout.{Layout}
+use Rattle.session_store.specs.declared.flash_sessions.IdleSessions.{IdleSessions}
+use Rattle.session_store.specs.declared.flash_sessions.IdleSessions.TheVariants as idle
 use Rattle.session_store.specs.declared.state.State.{State}
 use Rattle.session_store.specs.declared.state.State.TheVariants.{Memory, Flash, Down}
-pub use Rattle.session_store.specs.Rows.{store_room}
-use Rattle.session_store.specs.HeldPlaces.{PlacesStand, AreHeld, TableLies, AreIdle}
+use Rattle.session_store.specs.BySize.{slots_in, places_in, idle_size, IdleFor}
+pub use Rattle.session_store.specs.Size.{SizedLayout, store_room}
+use Rattle.session_store.specs.Size.{Size}
+use Rattle.session_store.specs.HeldPlaces.{PlacesStand, AreHeld, TableLies}
 use Rattle.session_store.specs.HeldSessions.{SessionsStand}
 use Rattle.session_store.specs.CompleteFlags.{flags_of, none_complete}
 use Rattle.session_store.specs.declared.state.CompleteFlags.{CompleteFlags}
@@ -21,14 +25,26 @@ use Rattle.session_store.specs.SessionTable.{SessionTable}
 -- the flash, how sessions are laid out there, whether they are held there, and where they are
 pub record HeldStore (F : Type 0) : Type 0 where
   pub flash : F
-  pub layout : Layout
+  pub layout : SizedLayout
   pub held : Bool
   pub state : State
+
+-- the size of a session with this room
+abbrev pub size_of_room : Room → Size
+size_of_room room = record { pieces = room.extent.pieces; words = room.words; bytes = room.bytes }
 
 -- that of a field that is empty only within a call
 abbrev pub kept : Option State → State
 kept (Some state) = state
-kept None = Down (record { first = extent_for 0; second = extent_for 0; third = extent_for 0; fourth = extent_for 0 }) none_complete
+kept None =
+    let none = extent_for 0 in
+    Down (idle.Small (record { first = none; second = none; third = none; fourth = none })) none_complete
+
+-- of which size the sessions are
+abbrev pub size_in : State → Size
+size_in (Memory slots) = size_of_room (slots_in slots).room
+size_in (Flash slots) = (places_in slots).layout.size
+size_in (Down idles flags) = idle_size idles
 
 -- they are held in flash
 abbrev pub held_in : State → Bool
@@ -55,14 +71,14 @@ IsInFlash (Down idles flags) = Unit {0}
 
 -- they stand for these sessions; what is down stands for none
 abbrev pub StateStands : State → SessionTable → Type 0
-StateStands (Memory slots) table = SessionsStand slots table
-StateStands (Flash slots) table = PlacesStand slots table
+StateStands (Memory slots) table = SessionsStand (slots_in slots) table
+StateStands (Flash slots) table = PlacesStand (places_in slots) table
 StateStands (Down idles flags) table = ⊥
 
 -- where they are held in flash they are there too
 abbrev pub StateIsStored : State → SessionTable → FlashSeen → Type 0
 StateIsStored (Memory slots) table seen = Unit {0}
-StateIsStored (Flash slots) table seen = AreHeld slots table seen
+StateIsStored (Flash slots) table seen = AreHeld (places_in slots) table seen
 StateIsStored (Down idles flags) table seen = ⊥
 
 -- these had their file whole when the device was last up: now, or when it went down
@@ -74,18 +90,18 @@ HadWhole (Down idles was) whole = whole ≡ was
 -- they are up in flash, and are there
 abbrev pub StateIsHeld : State → SessionTable → FlashSeen → Type 0
 StateIsHeld (Memory slots) table seen = ⊥
-StateIsHeld (Flash slots) table seen = AreHeld slots table seen
+StateIsHeld (Flash slots) table seen = AreHeld (places_in slots) table seen
 StateIsHeld (Down idles flags) table seen = ⊥
 
 -- the ranges are long enough, and are within so many bytes
-abbrev pub HasRanges : Layout → (room : ℕ) → Type 0
+abbrev pub HasRanges : SizedLayout → (room : ℕ) → Type 0
 HasRanges layout room = (records_place ≤ layout.span) × (4 * layout.span ≤ room)
 
 -- where they are is as the layout says, with a flash of so many bytes
-abbrev pub StateFits : Layout → (room : ℕ) → State → Type 0
-StateFits layout room (Memory slots) = slots.area ≡ layout.area
-StateFits layout room (Flash slots) = (slots.layout ≡ layout) × HasRanges layout room
-StateFits layout room (Down idles flags) = AreIdle layout.area idles × HasRanges layout room
+abbrev pub StateFits : SizedLayout → (room : ℕ) → State → Type 0
+StateFits layout room (Memory slots) = (slots_in slots).room ≡ store_room layout false
+StateFits layout room (Flash slots) = ((places_in slots).layout ≡ layout) × HasRanges layout room
+StateFits layout room (Down idles flags) = IdleFor layout.area idles × HasRanges layout room
 
 -- it is laid out as it was
 pub record IsLaidOut {F : Type 0} (old new : HeldStore F) : Type 0 where

@@ -1,5 +1,6 @@
 pub mod SessionTable
-pub mod Rows
+pub mod Size
+pub mod BySize
 pub mod CompleteFlags
 pub mod HeldSessions
 pub mod HeldPlaces

@@ -3,15 +3,14 @@ use Rattle.std.specs.Prelude.{◌≡◌, ℕ, Bool, true, false, List, [], ◌�
 use Rattle.frag_session.specs.declared.setups.SetupReq.{SetupReq}
 use Rattle.frag_session.specs.Setup.{Room, setup_bits}
 use Rattle.flash_session.specs.Opening.{IsFirstForeign, NothingForeign}
-use Rattle.session_store.specs.declared.held_slots.Layout.{Layout}
 use Rattle.session_store.specs.HeldPlaces.{base_at, place_at, TableLies}
 use Rattle.session_store.specs.HeldForeign.{IsForeignIn}
-use Rattle.session_store.specs.Rows.{store_room}
+use Rattle.session_store.specs.Size.{Size, SizedLayout, store_room, small_size, middle_size, large_size}
 use Rattle.session_store.specs.SessionTable.{SessionTable}
 
 -- ranges of so many bytes
-abbrev pub worked_layout : (span : ℕ) → Layout
-worked_layout span = record { area = 262382; span = span; limits = record { sessions = 4; rows = 256; descriptor = None } }
+abbrev pub worked_layout : (span : ℕ) → SizedLayout
+worked_layout span = record { size = large_size; area = 262382; span = span; limits = record { sessions = 4; rows = 256; descriptor = None } }
 
 -- at which indices there is a session
 abbrev pub indices : SessionTable → List Bool
@@ -59,15 +58,24 @@ request nb_frag frag_size = record {
 abbrev pub bits : Room → (rows nb_frag frag_size : ℕ) → ℕ
 bits room rows nb_frag frag_size = setup_bits (record { sessions = 4; rows = rows; descriptor = None }) room (request nb_frag frag_size)
 
-abbrev pub in_memory : Room
-in_memory = store_room (worked_layout 0) false
+abbrev pub in_memory : Size → Room
+in_memory size = store_room (record (worked_layout 0) { size = size }) false
 
 pub record WorkedRooms : Type 0 where
   -- 256 rows of 4,096 columns fit, and of 239 bytes; a row more does not
-  pub columns : bits in_memory 256 4096 64 ≡ 0
-  pub more_columns : bits in_memory 257 4096 64 ≡ 2
-  pub bytes : bits in_memory 256 1097 239 ≡ 0
-  pub more_bytes : bits in_memory 257 1097 239 ≡ 2
+  pub columns : bits (in_memory large_size) 256 4096 64 ≡ 0
+  pub more_columns : bits (in_memory large_size) 257 4096 64 ≡ 2
+  pub bytes : bits (in_memory large_size) 256 1097 239 ≡ 0
+  pub more_bytes : bits (in_memory large_size) 257 1097 239 ≡ 2
+  -- 16 rows of 256 columns and 48 bytes, and 64 of 1,024 columns and 48 bytes; a row, a piece or a byte more does not
+  pub small : bits (in_memory small_size) 16 256 48 ≡ 0
+  pub small_rows : bits (in_memory small_size) 17 256 48 ≡ 2
+  pub small_pieces : bits (in_memory small_size) 1 257 48 ≡ 2
+  pub small_bytes : bits (in_memory small_size) 16 256 49 ≡ 2
+  pub middle : bits (in_memory middle_size) 64 1024 48 ≡ 0
+  pub middle_rows : bits (in_memory middle_size) 65 1024 48 ≡ 2
+  pub middle_pieces : bits (in_memory middle_size) 1 1025 48 ≡ 2
+  pub middle_bytes : bits (in_memory middle_size) 64 1024 49 ≡ 2
   -- and the range holds all records, of 11 bytes for one byte of data
   pub range : bits (store_room (worked_layout 24673) true) 1 1 1 ≡ 0
   pub less_range : bits (store_room (worked_layout 24672) true) 1 1 1 ≡ 2

@@ -5,30 +5,33 @@ ghost use Rattle.std.specs.Prelude.{◌≡◌, ℕ, ◌*◌, ◌^◌, ◌<◌, �
 ghost use Rattle.frag_session.specs.Setup.{setup_bits};
 ghost use Rattle.frag_session.specs.Session.{answer_of, drop_cause, news_in, status_of, view_of};
 ghost use Rattle.frag_session.specs.HeldView.{seen};
-ghost use Rattle.row_elimination.specs.Room.{extent_for};
 ghost use Rattle.flash_session.specs.Body.{FieldsFit};
 ghost use Rattle.flash_session.specs.Layout.{records_place};
 ghost use Rattle.flash_session.specs.Seen.{left};
 ghost use Rattle.flash_session.specs.Serving.{FlashOpens};
 ghost use Rattle.session_store.specs.SessionTable.{SessionTable, session_at, with_session, table_after_setup, table_after_fragment};
+ghost use Rattle.frag_model.specs.Limits.{max_pieces};
+ghost use Rattle.session_store.specs.Size.{row_words, row_bytes, laid_by, extent_in};
+ghost use Rattle.session_store.specs.CompleteFlags.{is_whole, flags_of};
 ghost use Rattle.session_store.specs.HeldForeign.{NoneForeign, IsForeignIn};
 ghost use Rattle.session_store.specs.HeldPlaces.{AreIdle, IsPlace, PlacesStand, AreHeld, TableLies, base_at, room_at};
 ghost use Rattle.session_store.specs.HeldPlaces.{PlacesServe, TableOldOrNew, TableOldNoneOrNew};
 
-use crate::session_slots::{ROW_BYTES, ROW_WORDS};
+use crate::session_slots::idle;
+use crate::state::{CompleteFlags, is_complete};
 use flash_session::{Failed, Flash, Held, OpenFault};
 use frag_session::{Heard, Idle, Limits, SetupReq, StatusAns, Via, View};
 use row_elimination::{Memory, Solver};
 use std::alloc::Global;
 use std::marker::Model;
 
-/// The memory of four sessions; none of them is there.
+/// The memory of four sessions, with `W` words and `B` bytes for the rows of each; none of them is there.
 #[derive(Drop)]
-pub struct Idles {
-    first: Idle<ROW_WORDS, ROW_BYTES>,
-    second: Idle<ROW_WORDS, ROW_BYTES>,
-    third: Idle<ROW_WORDS, ROW_BYTES>,
-    fourth: Idle<ROW_WORDS, ROW_BYTES>,
+pub struct Idles<const W: usize, const B: usize> {
+    first: Idle<W, B>,
+    second: Idle<W, B>,
+    third: Idle<W, B>,
+    fourth: Idle<W, B>,
 }
 
 /// How the sessions of a device are laid out in its flash, and the limits of each.
@@ -42,67 +45,67 @@ pub struct Layout {
     pub limits: Limits,
 }
 
-/// A session, or a place for one, at each index, 0 to 3. Contracts see what each holds in memory, for which sessions it stands,
-/// and what is in the flash.
+/// A session of at most `P` pieces, or a place for one, at each index, 0 to 3. Contracts see what each holds in memory, for which
+/// sessions it stands, and what is in the flash.
 #[derive(Drop)]
-pub struct HeldSlots {
-    sessions: [Option<Held<ROW_WORDS, ROW_BYTES>>; 4],
+pub struct HeldSlots<const P: u16, const W: usize, const B: usize> {
+    sessions: [Option<Held<W, B>>; 4],
     layout: Layout,
 }
 
-impl Model for HeldSlots {
+impl<const P: u16, const W: usize, const B: usize> Model for HeldSlots<P, W, B> {
     ghost use Rattle.session_store.specs.HeldPlaces.{HeldPlaces, ArePlaces};
+    ghost use Rattle.session_store.specs.Size.{laid_by};
 
     ghost Value = { HeldPlaces };
 
-    ghost view = { λ s. record { sessions = s.sessions; layout = s.layout } };
+    ghost view = { λ s. record { sessions = s.sessions; layout = laid_by P W B s.layout } };
 
-    ghost invariant = { λ s. ArePlaces (record { sessions = s.sessions; layout = s.layout }) };
+    ghost invariant = { λ s.
+        ArePlaces (record { sessions = s.sessions; layout = laid_by P W B s.layout }) };
 }
 
-impl Idles {
-    /// Takes the memory of four sessions, each with a file area of so many bytes; `Memory` where there is too little.
-    pub fn reserve(alloc: Global, area: u32) -> Result<Self, Memory>
-        ensures { IfOk result (AreIdle area) }
+impl<const W: usize, const B: usize> Idles<W, B> {
+    /// Takes the memory of four sessions of at most `pieces` pieces, each with a file area of so many bytes; `Memory` where there
+    /// is too little.
+    pub fn reserve(alloc: Global, area: u32, pieces: u16) -> Result<Self, Memory>
+        requires words { W ≤ row_words }
+        requires bytes { B ≤ row_bytes }
+        requires most { pieces ≤ max_pieces }
+        ensures { IfOk result (AreIdle (record { area = area; pieces = pieces })) }
     {
         Ok(Idles {
-            first: idle(alloc, area)?,
-            second: idle(alloc, area)?,
-            third: idle(alloc, area)?,
-            fourth: idle(alloc, area)?,
+            first: idle(alloc, area, pieces)?,
+            second: idle(alloc, area, pieces)?,
+            third: idle(alloc, area, pieces)?,
+            fourth: idle(alloc, area, pieces)?,
         })
     }
 }
 
-/// The memory of a session.
-fn idle(alloc: Global, area: u32) -> Result<Idle<ROW_WORDS, ROW_BYTES>, Memory>
-    ensures { IfOk result (λ idle. idle ≡ extent_for area) }
-{
-    Ok(Idle::new(Solver::reserve(alloc, area)?))
-}
-
-impl HeldSlots {
+impl<const P: u16, const W: usize, const B: usize> HeldSlots<P, W, B> {
     /// Opens the four ranges from the flash's first byte on: each with the session that is stored there, or with none. `Foreign`
     /// names the lowest foreign place of the first range that has one, counted from the range's first byte.
     pub fn open<F: Flash>(
         flash: &mut F,
-        idles: Idles,
+        idles: Idles<W, B>,
         layout: Layout,
-    ) -> Result<HeldSlots, (Idles, OpenFault)>
-        requires idle { AreIdle layout.area idles }
+    ) -> Result<HeldSlots<P, W, B>, (Idles<W, B>, OpenFault)>
+        requires idle { AreIdle (extent_in (laid_by P W B layout)) idles }
         requires range { 4 * layout.span ≤ (F.seen flash.old).room }
         requires long { records_place ≤ layout.span }
         // The content that any call leaves for these sessions at any moment opens for them.
         ensures opened { (table : SessionTable) (b : List ℕ) → (F.seen flash.new).holds b
-            → TableLies layout table b
+            → TableLies (laid_by P W B layout) table b
             → MatchResult result (λ h. AreHeld h table (F.seen flash.new))
             (λ e. e.1 ≡ OpenFault.Flash) }
         // Foreign comes exactly where the header's gate of a range is open and something there is no session's.
         ensures opens { FlashOpens (λ e. e.1)
-            (λ h seen. (b : List ℕ) → seen.holds b → NoneForeign layout b) (IsForeignIn layout)
+            (λ h seen. (b : List ℕ) → seen.holds b → NoneForeign (laid_by P W B layout) b)
+            (IsForeignIn (laid_by P W B layout))
             (F.seen flash.old) (F.seen flash.new) result }
-        ensures layout { IfOk result (λ h. h.layout ≡ layout) }
-        ensures area { IfErr result (λ e. AreIdle layout.area e.0) }
+        ensures layout { IfOk result (λ h. h.layout ≡ laid_by P W B layout) }
+        ensures idle { IfErr result (λ e. AreIdle (extent_in (laid_by P W B layout)) e.0) }
     {
         let Idles {
             first,
@@ -190,7 +193,7 @@ impl HeldSlots {
                 Ok(bits)
             }
             Err(idle) => {
-                self.sessions[at] = Some(unopened(self.layout, req.index, idle));
+                self.sessions[at] = Some(unopened::<P, W, B>(self.layout, req.index, idle));
                 Err(Failed)
             }
         }
@@ -231,7 +234,7 @@ impl HeldSlots {
                 Ok(heard)
             }
             Err(idle) => {
-                self.sessions[at] = Some(unopened(self.layout, index, idle));
+                self.sessions[at] = Some(unopened::<P, W, B>(self.layout, index, idle));
                 Err(Failed)
             }
         }
@@ -255,7 +258,7 @@ impl HeldSlots {
                 Ok(lived)
             }
             Err(idle) => {
-                self.sessions[at] = Some(unopened(self.layout, index, idle));
+                self.sessions[at] = Some(unopened::<P, W, B>(self.layout, index, idle));
                 Err(Failed)
             }
         }
@@ -287,6 +290,30 @@ impl HeldSlots {
         }
     }
 
+    /// Says which sessions have their file whole.
+    pub fn flags(&self) -> CompleteFlags
+        ensures { (table : SessionTable) → PlacesStand self.now table → result ≡ flags_of table }
+    {
+        CompleteFlags {
+            first: self.is_whole(0),
+            second: self.is_whole(1),
+            third: self.is_whole(2),
+            fourth: self.is_whole(3),
+        }
+    }
+
+    #[tactic(auto, unfolding(frag_session::specs::HeldView::seen))]
+    fn is_whole(&self, index: u8) -> bool
+        requires { index < 4 }
+        ensures { (table : SessionTable) → PlacesStand self.now table
+            → result ≡ is_whole (view_of (session_at table index)) }
+    {
+        match self.view(index) {
+            Some(view) => is_complete(view.verdict),
+            None => false,
+        }
+    }
+
     /// Both what a stop between two calls leaves and what a read gives open for the sessions that are held.
     pub fn lie<F: Flash>(&self, flash: &F)
         ensures left { (table : SessionTable) → AreHeld self.now table (F.seen flash.now)
@@ -301,8 +328,9 @@ impl HeldSlots {
     }
 
     /// Returns the memory, for another opening. No flash is called.
-    pub fn close(self) -> Idles
-        ensures { AreIdle self.layout.area result }
+    pub fn close(self) -> Idles<W, B>
+        ensures size { self.entry.layout.size ≡ record { pieces = P; words = W; bytes = B } }
+        ensures idle { AreIdle (extent_in self.entry.layout) result }
     {
         let HeldSlots {
             mut sessions,
@@ -318,16 +346,16 @@ impl HeldSlots {
 }
 
 /// A place for the session of an index; nothing is known of it.
-fn unopened(
+fn unopened<const P: u16, const W: usize, const B: usize>(
     layout: Layout,
     index: u8,
-    idle: Idle<ROW_WORDS, ROW_BYTES>,
-) -> Held<ROW_WORDS, ROW_BYTES>
+    idle: Idle<W, B>,
+) -> Held<W, B>
     requires index { index < 4 }
     requires range { 4 * layout.span < 2 ^ 32 }
     requires long { records_place ≤ layout.span }
-    requires idle { idle ≡ extent_for layout.area }
-    ensures { IsPlace result layout (base_at layout index) }
+    requires idle { idle ≡ extent_in (laid_by P W B layout) }
+    ensures { IsPlace result (laid_by P W B layout) (base_at (laid_by P W B layout) index) }
 {
     let base = u32::from(index) * layout.span;
     Held::unopened(base, layout.span, idle, layout.limits)

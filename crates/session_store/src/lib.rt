@@ -4,7 +4,7 @@
 //!
 //! From `session_tests::store`:
 //!
-//!     match SessionStore::reserve(alloc, flash, LAYOUT, true) {  // all memory; `flash` is a `Flash`
+//!     match SessionStore::reserve(alloc, flash, LAYOUT, SessionSize::Large, true) {  // all memory; `flash` is a `Flash`
 //!         Ok(store) => store,
 //!         Err(_) => panic!(rt; "no memory"),
 //!     }
@@ -16,14 +16,18 @@
 //!     store.fragment(index, Via::Unicast, n, &[byte], 7).is_ok()  // what was heard outlasts a stop
 #![tactic(auto)]
 
+mod flash_sessions;
 mod held_slots;
 mod laws;
+mod memory_sessions;
 mod session_slots;
+mod sizes;
 mod state;
 mod store;
 
 pub use held_slots::{HeldSlots, Idles, Layout};
 pub use laws::worked_places;
 pub use session_slots::SessionSlots;
+pub use sizes::SessionSize;
 pub use state::CompleteFlags;
 pub use store::{FlashFault, SessionStore};

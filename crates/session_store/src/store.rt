@@ -8,16 +8,18 @@ ghost use Rattle.flash_session.specs.Body.{FieldsFit};
 ghost use Rattle.flash_session.specs.Seen.{left};
 ghost use Rattle.flash_session.specs.Serving.{FlashOpens};
 ghost use Rattle.session_store.specs.CompleteFlags.{none_complete, is_whole};
+ghost use Rattle.session_store.specs.Size.{laid_out, size_with};
 ghost use Rattle.session_store.specs.SessionTable.{SessionTable, no_sessions, session_at, with_session, table_after_setup, table_after_fragment};
 ghost use Rattle.session_store.specs.HeldForeign.{NoneForeign, IsForeignIn};
 ghost use Rattle.session_store.specs.HeldPlaces.{TableLies, TableOldOrNew, TableOldNoneOrNew};
 ghost use Rattle.session_store.specs.HeldStore.{IsUp, IsDown, IsInFlash, StateStands, StateIsHeld, HadWhole, HasRanges, StoreServes, StorePowers, store_room};
 ghost use Rattle.session_store.specs.declared.state.State.TheVariants.{Down};
 
-use crate::held_slots::{HeldSlots, Layout};
+use crate::flash_sessions::FlashSessions;
+use crate::held_slots::Layout;
+use crate::sizes::SessionSize;
 use crate::state::{
-    CompleteFlags, State, first_state, flags_now, go_down, is_complete, put_down, put_idles,
-    put_slots,
+    CompleteFlags, State, first_state, go_down, is_complete, put_down, put_idles, put_slots,
 };
 use flash_session::{Flash, OpenFault};
 use frag_session::{Heard, SetupReq, StatusAns, Via, View};
@@ -42,19 +44,21 @@ pub struct SessionStore<F: Flash + Drop> {
 
 impl<F: Flash + Drop> Model for SessionStore<F> {
     ghost use Rattle.std.specs.Prelude.{◌≡◌, true, is_some};
-    ghost use Rattle.session_store.specs.HeldStore.{HeldStore, kept, held_in, StateFits};
+    ghost use Rattle.session_store.specs.HeldStore.{HeldStore, kept, held_in, size_in, StateFits};
+    ghost use Rattle.session_store.specs.Size.{laid_out};
 
     ghost Value = { HeldStore F };
 
     ghost view = { λ s. record {
       flash = s.flash;
-      layout = s.layout;
+      layout = laid_out (size_in (kept s.state)) s.layout;
       held = held_in (kept s.state);
       state = kept s.state;
     } };
 
     ghost invariant = { λ s. (is_some s.state ≡ true)
-        × StateFits s.layout (F.seen s.flash).room (kept s.state) };
+        × StateFits (laid_out (size_in (kept s.state)) s.layout) (F.seen s.flash).room
+        (kept s.state) };
 }
 
 impl<F: Flash + Drop> SessionStore<F> {
@@ -62,15 +66,22 @@ impl<F: Flash + Drop> SessionStore<F> {
 
     /// Takes all memory. Where `held` is false the sessions are only in memory, and no flash is called; else they are down over
     /// four ranges within the flash, until `power`. `Memory` comes where memory is missing, and the flash is then dropped.
-    pub fn reserve(alloc: Global, flash: F, layout: Layout, held: bool) -> Result<Self, Memory>
-        requires { held ≡ true → HasRanges layout (F.seen flash).room }
+    pub fn reserve(
+        alloc: Global,
+        flash: F,
+        layout: Layout,
+        size: SessionSize,
+        held: bool,
+    ) -> Result<Self, Memory>
+        requires { held ≡ true → HasRanges (laid_out (size_with size) layout) (F.seen flash).room }
         ensures memory { held ≡ false → IfOk result (λ s. StateStands s.state no_sessions) }
         ensures down { held ≡ true
             → IfOk result (λ s. (idles : _) × (s.state ≡ Down idles none_complete)) }
-        ensures laid { IfOk result (λ s. (s.layout ≡ layout) × (s.held ≡ held)) }
+        ensures laid { IfOk result
+            (λ s. (s.layout ≡ laid_out (size_with size) layout) × (s.held ≡ held)) }
         ensures flash { IfOk result (λ s. s.flash ≡ flash) }
     {
-        match first_state(alloc, layout, held) {
+        match first_state(alloc, layout, size, held) {
             Ok(state) => Ok(SessionStore {
                 flash,
                 layout,
@@ -147,7 +158,7 @@ impl<F: Flash + Drop> SessionStore<F> {
         match &mut self.state {
             Some(State::Memory(slots)) => Ok(slots.setup(req, self.layout.limits)),
             Some(State::Flash(slots)) => {
-                let flags = flags_now(slots);
+                let flags = slots.flags();
                 match slots.setup(&mut self.flash, req) {
                     Ok(bits) => Ok(bits),
                     Err(_) => {
@@ -184,7 +195,7 @@ impl<F: Flash + Drop> SessionStore<F> {
         match &mut self.state {
             Some(State::Memory(slots)) => Ok(slots.fragment(index, via, n, part, mark)),
             Some(State::Flash(slots)) => {
-                let flags = flags_now(slots);
+                let flags = slots.flags();
                 match slots.fragment(&mut self.flash, index, via, n, part, mark) {
                     Ok(heard) => Ok(heard),
                     Err(_) => {
@@ -210,7 +221,7 @@ impl<F: Flash + Drop> SessionStore<F> {
         match &mut self.state {
             Some(State::Memory(slots)) => Ok(slots.delete(index)),
             Some(State::Flash(slots)) => {
-                let flags = flags_now(slots);
+                let flags = slots.flags();
                 match slots.delete(&mut self.flash, index) {
                     Ok(lived) => Ok(lived),
                     Err(_) => {
@@ -301,7 +312,7 @@ impl<F: Flash + Drop> SessionStore<F> {
             (IsForeignIn self.old.layout) (F.seen self.old.flash) (F.seen self.new.flash) result }
     {
         let (idles, flags) = put_down(self.state.take(), &self.flash, self.layout);
-        match HeldSlots::open(&mut self.flash, idles, self.layout) {
+        match FlashSessions::open(&mut self.flash, idles, self.layout) {
             Ok(slots) => {
                 put_slots(&mut self.state, slots);
                 Ok(flags)

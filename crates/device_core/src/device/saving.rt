@@ -19,13 +19,15 @@ use crate::saving::{
 };
 use flash_session::Flash;
 use mc_group::GroupTable;
-use session_store::CompleteFlags;
+use session_store::{CompleteFlags, SessionSize};
 use std::alloc::Global;
 
 impl<F: Flash + Drop> Device<F> {
     ghost use Rattle.session_store.specs.declared.state.CompleteFlags.{CompleteFlags};
-    ghost use Rattle.device_core.specs.HeldDevice.{device_of};
-    ghost use Rattle.device_core.specs.HeldSaving.{IsRestored, Saves};
+    ghost use Rattle.session_store.specs.Size.{size_with};
+    ghost use Rattle.device_core.specs.Configuration.{Configuration, configured, at_full_size};
+    ghost use Rattle.device_core.specs.HeldDevice.{Starts, device_of};
+    ghost use Rattle.device_core.specs.HeldSaving.{IsRestored, Resumes, Saves};
     ghost use Rattle.device_core.specs.SavingInside.{Takes};
 
     /// Returns what it knows as bytes that `restore` takes again, besides the files that its slots hold: to be stored before the
@@ -49,21 +51,63 @@ impl<F: Flash + Drop> Device<F> {
         running: &[u8],
         next: &[u8],
     ) -> Result<Self, RestoreError>
-        ensures { IsRestored config (F.seen flash).room flash saved.now running.now next.now result }
+        ensures { IsRestored (at_full_size config) (F.seen flash).room flash saved.now running.now
+            next.now result }
     {
-        let mut device = match Self::reserve(alloc, config, flash) {
+        Self::restore_sized(
+            alloc,
+            config,
+            SessionSize::Large,
+            flash,
+            saved,
+            running,
+            next,
+        )
+    }
+
+    /// Restores a device as `restore` does, whose sessions have the size with which it was made by `reserve_sized`.
+    pub fn restore_sized(
+        alloc: Global,
+        config: DeviceConfig,
+        size: SessionSize,
+        flash: F,
+        saved: &[u8],
+        running: &[u8],
+        next: &[u8],
+    ) -> Result<Self, RestoreError>
+        ensures { IsRestored (configured (size_with size) config) (F.seen flash).room flash
+            saved.now running.now next.now result }
+    {
+        let mut device = match Self::reserve_sized(alloc, config, size, flash) {
             Ok(device) => device,
             Err(error) => return Err(restore_error(error)),
         };
-        if saved.len() != MAX_SAVED_DEVICE || !device.take_saved(saved, running, next) {
-            return Err(RestoreError::Corrupt);
-        }
-        let again = device.saved_with(flags_in(saved));
-        if is_same(again.as_slice(), saved) {
+        if device.resume(saved, running, next) {
             Ok(device)
         } else {
             Err(RestoreError::Corrupt)
         }
+    }
+
+    /// Makes of a device at its start the one of these bytes and files, as `restore` does; false exactly where no device of its
+    /// configuration has them, and then nothing is known of it. It takes no memory. It is never inlined, nor is what it calls, so
+    /// that no caller has their room on its stack beside that of `reserve_sized`.
+    #[inline(never)]
+    pub fn resume(&mut self, saved: &[u8], running: &[u8], next: &[u8]) -> bool
+        requires few { self.old.config.groups ≤ 4 }
+        requires places { length self.old.groups ≡ self.old.config.groups }
+        requires none { self.old.slots.next ≡ ImageState.None }
+        ensures { (config : Configuration) (flash : _) → Starts config flash self.old
+            → Resumes config flash saved.now running.now next.now self.new result }
+    {
+        if saved.len() != MAX_SAVED_DEVICE || !self.take_saved(saved, running, next) {
+            return false;
+        }
+        let again = self.saved_with(flags_in(saved));
+        if !is_same(again.as_slice(), saved) {
+            return false;
+        }
+        true
     }
 
     /// Returns the bytes of the file that was received to run next, none where there is none.
@@ -73,7 +117,8 @@ impl<F: Flash + Drop> Device<F> {
         self.slots.next_file()
     }
 
-    /// What it knows, with which sessions had their file whole.
+    /// What it knows, with which sessions had their file whole. It is never inlined, as `resume`.
+    #[inline(never)]
     #[tactic(auto, unfolding(crate::specs::Saving::saved_of, crate::specs::Saving::state_bytes))]
     fn saved_with(&self, flags: CompleteFlags) -> SavedDevice
         ensures { (table : SessionTable) → result.items ≡ saved_of (device_of self.now table) flags }

@@ -5,7 +5,7 @@ ghost use Rattle.std.specs.Prelude.{◌*◌, ◌≤◌};
 use crate::tests::common::SETUP;
 use flash_session::{Flash, MemFlash, StopFlash};
 use frag_session::{Limits, SetupReq, Verdict, Via};
-use session_store::{Layout, SessionStore};
+use session_store::{Layout, SessionSize, SessionStore};
 use std::alloc::Global;
 use std::process::Abort;
 use std::test::*;
@@ -67,7 +67,7 @@ fn memory(rt: &impl Abort, alloc: Global) -> MemFlash {
 fn store(rt: &impl Abort, alloc: Global, flash: MemFlash, calls: u64) -> Store {
     let flash = StopFlash::over(flash, calls);
     assert!(rt; flash.size() as u64 >= 4 * SPAN as u64);
-    match SessionStore::reserve(alloc, flash, LAYOUT, true) {
+    match SessionStore::reserve(alloc, flash, LAYOUT, SessionSize::Large, true) {
         Ok(store) => store,
         Err(_) => panic!(rt; "no memory"),
     }

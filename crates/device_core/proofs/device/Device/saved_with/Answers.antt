@@ -1,4 +1,5 @@
 use Rattle.std.proofs.Common.{refl}
+use Rattle.session_store.specs.Size.{size_with}
 use Rattle.device_core.specs.Saving.{state_bytes, saved_of}
 use Rattle.device_core.proofs.device.Device.saved_with.Goals as goal
 
@@ -10,7 +11,7 @@ returns g c = λ table.
       c.digest_of-digest.ensures,
       c.as_slice.ensures.value,
       c.as_slice-2.ensures.value,
-      c.config_bytes.ensures,
+      c.config_bytes.ensures (size_with c.self.inside.size),
       c.running.ensures.file,
       c.next_file.ensures,
       c.put.ensures.bytes,

@@ -1,4 +1,6 @@
 use Rattle.std.proofs.Common.{refl, sym, ap}
+use Rattle.session_store.specs.Size.{size_with}
+use Rattle.device_core.specs.Configuration.{configured}
 use Rattle.device_core.specs.HeldDevice.{HeldDevice}
 use Rattle.device_core.proofs.Heard.{setup_steps}
 use Rattle.device_core.proofs.Keeping.{keeps_ok, keeps_err}
@@ -17,8 +19,8 @@ returns-in-Ok g c =
           (ap (λ (h : HeldDevice _). h.sessions) c.send.ensures)
           (keeps_ok g.F.Flash.seen c.args.self.now c.self.inside.sessions c.setup.new.self _ _ _ _
           (setup_table c.self.inside.sessions c.args.req) _ same
-          (λ device stands. setup_goes c.args.here c.args.self.now c.self.inside.sessions c.self.inside.config c.args.req device config c.self.invariant.layout c.self.invariant.held stands)
-          (λ device b stands lies. setup_passes c.args.here c.args.self.now c.self.inside.sessions c.self.inside.config c.args.req device b config c.self.invariant.layout c.self.invariant.held stands lies)
+          (λ device stands. setup_goes c.args.here c.args.self.now c.self.inside.sessions (configured (size_with c.self.inside.size) c.self.inside.config) c.args.req device config c.self.invariant.layout c.self.invariant.held stands)
+          (λ device b stands lies. setup_passes c.args.here c.args.self.now c.self.inside.sessions (configured (size_with c.self.inside.size) c.self.inside.config) c.args.req device b config c.self.invariant.layout c.self.invariant.held stands lies)
           c.in-Ok.ensures.serves);
     }
 
@@ -31,6 +33,6 @@ returns-in-Err g c =
       fails = rw (← c.self.view_is) (record { down = c.in-Err.ensures.serves.down; rest = λ table. refl });
       keeps = keeps_err g.F.Flash.seen c.args.self.now c.self.inside.sessions c.setup.new.self _ _ _ _
           (setup_table c.self.inside.sessions c.args.req) _ same
-          (λ device b stands lies. setup_passes c.args.here c.args.self.now c.self.inside.sessions c.self.inside.config c.args.req device b config c.self.invariant.layout c.self.invariant.held stands lies)
+          (λ device b stands lies. setup_passes c.args.here c.args.self.now c.self.inside.sessions (configured (size_with c.self.inside.size) c.self.inside.config) c.args.req device b config c.self.invariant.layout c.self.invariant.held stands lies)
           c.in-Err.ensures.serves;
     }

@@ -3,8 +3,8 @@ use Rattle.std.proofs.lemmas.Grind.{common_steps}
 use Rattle.session_store.proofs.PlaceSteps.{extent_held}
 use Rattle.session_store.proofs.held_slots.HeldSlots.close.Goals as goal
 
-pub returns : goal.returns
-returns c =
+pub returns-clause-idle : goal.returns-clause-idle
+returns-clause-idle g c =
     let xs = c.self.inside.sessions in
     let one : get_or xs 0 None ≡ Some c.unwrap.result = first_of (search rules, cc, grind (arith, common_steps)) in
     let two : get_or xs 1 None ≡ Some c.unwrap-2.result = first_of (search rules, cc, grind (arith, common_steps)) in

@@ -1,7 +1,10 @@
-use Rattle.std.proofs.Common.{length, refl, arith}
+use Rattle.std.proofs.Common.{◌≡◌, true, length, refl, sym, subst, arith}
 use Rattle.std.proofs.lemmas.Bool.{le-leb}
-use Rattle.device_core.specs.Device.{max_rows}
-use Rattle.campaign_world.specs.Making.{after_form}
+use Rattle.device_core.specs.Configuration.{Configuration}
+use Rattle.device_core.specs.Device.{is_config, max_rows}
+use Rattle.campaign_world.specs.HeldLate.{HasSpan}
+use Rattle.campaign_world.specs.Making.{after_form, with_joined}
+use Rattle.campaign_world.specs.PhaseInside.{PlanTakes}
 use Rattle.campaign_world.proofs.FormCauses as causes
 use Rattle.campaign_world.proofs.world.planning.Planning.line.Goals as goal
 
@@ -38,10 +41,11 @@ config_of-config-requires-clause-offset c = let fit = causes.fitting (length c.a
 pub add_device-requires-clause-fine : goal.add_device-requires-clause-fine
 add_device-requires-clause-fine c =
     let fit = causes.fitting (length c.args.self.now.image.items) (length c.args.self.now.devices.items) c.args.form.now c.in-Device.line c.in-Device.is c.requires.tested.ranges c.requires.tested.fits in
-    rw (c.config_of-config.ensures, le-leb c.in-Device.line.rows max_rows fit.few, causes.known_formats c.in-Device.line.v1) refl
+    subst (λ (k : Configuration). is_config k ≡ true) (sym c.config_of-config.ensures)
+    (rw (le-leb c.in-Device.line.rows max_rows fit.few, causes.known_formats c.in-Device.line.v1) refl)
 
 pub add_device-requires-clause-span : goal.add_device-requires-clause-span
-add_device-requires-clause-span c = rw c.config_of-config.ensures (causes.spans c.in-Device.line.flash)
+add_device-requires-clause-span c = subst (λ (k : Configuration). HasSpan k) (sym c.config_of-config.ensures) (causes.spans c.in-Device.line.flash)
 
 pub add_device-requires-clause-joins : goal.add_device-requires-clause-joins
 add_device-requires-clause-joins c =
@@ -108,4 +112,6 @@ returns-in-WindowB-clause-taken c = rw (c.in-WindowB.is, ← c.window_of-in-Wind
 
 pub returns-in-Device-clause-taken : goal.returns-in-Device-clause-taken
 unfolding after_form
-returns-in-Device-clause-taken c = rw (c.in-Device.is) (rw (c.config_of-config.ensures) at (c.add_device.ensures.taken c.args.lines))
+returns-in-Device-clause-taken c = rw (c.in-Device.is)
+    (subst (λ (k : Configuration). PlanTakes c.args.lines c.args.self.now c.add_device.new.self c.add_device.result (λ world. with_joined world c.in-Device.line.id k))
+    c.config_of-config.ensures (c.add_device.ensures.taken c.args.lines))

@@ -1,0 +1,64 @@
+"""Makes objects and archives of a translated module by the toolchain's clang, which compiles for all processors."""
+import pathlib
+import subprocess
+import sys
+
+from . import narrow
+from .keeping import kit
+from .targets import TARGETS, Target, Way
+
+HERE = pathlib.Path(__file__).resolve().parent
+C = HERE.parent.parent / "c"
+
+
+def run(*words: str | pathlib.Path, by: pathlib.Path | None = None) -> str:
+    """Runs a command, `by` another program under the name of the first word, and gives what it says."""
+    plain = [str(word) for word in words]
+    done = subprocess.run(plain, executable=by, stdout=subprocess.PIPE, stderr=subprocess.STDOUT, text=True)
+    if done.returncode:
+        sys.exit(f"{' '.join(plain)}: status {done.returncode}\n{done.stdout[-2000:]}")
+    return done.stdout
+
+
+def clang() -> pathlib.Path:
+    return kit() / "toolchain" / "bin" / "clang"
+
+
+def options(target: Target, level: str) -> list[str]:
+    """What clang takes for a target: each function can be left out by the linker."""
+    return [f"--target={target.triple}", *target.flags, f"-O{level}", "-ffunction-sections", "-fdata-sections"]
+
+
+def translated(module: pathlib.Path, name: str, level: str, place: pathlib.Path) -> pathlib.Path:
+    """The object of a kept module for a target, in a folder."""
+    target = TARGETS[name]
+    text, to, made = (place / f"{module.stem}{end}" for end in (".x86_64.ll", ".ll", ".o"))
+    run(clang(), "--target=x86_64-unknown-linux-gnu", "-x", "ir", module, "-S", "-emit-llvm", "-O0", "-Xclang",
+        "-disable-llvm-passes", "-o", text)
+    try:
+        to.write_text(narrow.rewritten(text.read_text(), target, level))
+    except narrow.Refused as fault:
+        sys.exit(f"{module.stem} is not translated for {name}: no rule of tools/cross/narrow.py has the line\n{fault}")
+    run(clang(), *options(target, level), "-Wno-override-module", "-c", "-x", "ir", to, "-o", made)
+    return made
+
+
+def compiled(source: str, name: str, level: str, place: pathlib.Path) -> pathlib.Path:
+    """The object of a file of c/ for a target. (The toolchain's clang has no headers, so the few that c/ takes are here.)"""
+    made = place / f"{source.removesuffix('.c')}.o"
+    free = ["-ffreestanding", "-nostdinc", "-isystem", str(HERE / "include")]
+    run(clang(), *options(TARGETS[name], level), *free, "-c", C / source, "-o", made)
+    return made
+
+
+def archive(modules: list[pathlib.Path], name: str, level: str, place: pathlib.Path) -> pathlib.Path:
+    """libfuota.a for a target, in a folder, of the kept modules of the crates."""
+    target = TARGETS[name]
+    assert target.way is Way.TRANSLATED
+    sources = ["pointer_bits.c", "heap.c", *(["heap_calls.c"] if target.bits == 64 else [])]
+    objects = [*(translated(module, name, level, place) for module in modules),
+               *(compiled(source, name, level, place) for source in sources)]
+    made = place / "libfuota.a"
+    made.unlink(missing_ok=True)
+    run("llvm-ar", "rcs", made, *objects, by=clang())
+    return made
