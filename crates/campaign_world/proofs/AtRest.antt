@@ -50,11 +50,10 @@ raised id old new uplinks becomes aside =
     none_made after_migration id old new uplinks (λ d rests. rests_raised old new d becomes aside rests) (λ d. refl)
 
 -- what rests as it did rests as if its uplinks were taken
-pub still_rests : (held : HeldDevice Cells) (d : DeviceState) → IsAtRest held d → IsAtRest held (uplinks_taken d)
+still_rests : (held : HeldDevice Cells) (d : DeviceState) → IsAtRest held d → IsAtRest held (uplinks_taken d)
 still_rests held d rests =
     subst (λ (us : List Uplink). IsAtRest held (record d { outbox = us })) (none_held held d rests) rests
 
-pub restarted : (id : ℕ) (old new : HeldDevice Cells) (uplinks : List NumberedUplink)
-    → ((d : DeviceState) → IsAtRest old d → IsAtRest new d) → Happens IsAtRest (λ d. d) id old new uplinks uplinks
-restarted id old new uplinks rests =
-    none_made (λ d. d) id old new uplinks (λ d at_rest. still_rests new d (rests d at_rest)) (λ d. refl)
+-- a device at which nothing happens
+pub undisturbed : (id : ℕ) (held : HeldDevice Cells) (uplinks : List NumberedUplink) → Happens IsAtRest (λ d. d) id held held uplinks uplinks
+undisturbed id held uplinks = none_made (λ d. d) id held held uplinks (still_rests held) (λ d. refl)

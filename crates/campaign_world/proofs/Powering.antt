@@ -1,4 +1,4 @@
--- Power comes to a device over a flash of cells, for the first time or again.
+-- Power comes to a device over a flash of cells for the first time.
 use Rattle.std.proofs.Common.{◌≡◌, ℕ, ◌*◌, zero, suc, true, false, List, get_or, replicate, Result, Ok, Err, IfErr, MatchResult, refl, sym, ap, subst, ◌∙◌, arith}
 use Rattle.frag_session.specs.Session.{view_of}
 use Rattle.flash_session.specs.declared.fault.OpenFault.{OpenFault}
@@ -16,10 +16,10 @@ use Rattle.device_core.specs.Configuration.{Configuration}
 use Rattle.device_core.specs.Device.{DeviceState, first_device}
 use Rattle.device_core.specs.HeldPower.{HadWhole}
 use Rattle.device_core.specs.HeldDevice.{HeldDevice, device_of, DeviceStands, Starts}
-use Rattle.device_core.specs.HeldSessions.{IsInFlash, StateIsStored, StateIsHeld}
+use Rattle.device_core.specs.HeldSessions.{IsInFlash, StateIsStored}
 use Rattle.device_core.specs.Power.{after_power}
 use Rattle.device_core.specs.SessionTable.{SessionTable, no_sessions}
-use Rattle.device_core.proofs.Keeping.{no_rise, held_of}
+use Rattle.device_core.proofs.Keeping.{no_rise}
 use Rattle.device_core.proofs.Outboxes.{outbox_is}
 use Rattle.device_core.proofs.Quiet.{power_is_quiet}
 use Rattle.campaign_world.specs.HeldLate.{IsAtRest}
@@ -73,7 +73,6 @@ first_quiet : (config : Configuration) → after_power none_complete no_sessions
 first_quiet config =
     ap (λ (w : CompleteFlags). after_power w no_sessions (first_device config)) (sym none_are_whole) ∙ power_is_quiet (first_device config)
 
--- for the first time
 pub first_rests : (config : Configuration) (n : ℕ) (old new : HeldDevice Cells) (r : Result (Unit {0}) OpenFault) → Starts config old.sessions.flash old
     → old.sessions.flash.bytes ≡ replicate n 0 → old.sessions.held ≡ true
     → ((whole : CompleteFlags) → HadWhole old.sessions.state whole → (table : SessionTable) (b : List ℕ) → b ≡ new.sessions.flash.bytes
@@ -94,17 +93,3 @@ first_rests config n old new r starts blank is_held opened follows rises =
     subst (λ (d : DeviceState). DeviceStands new d)
     (ap (λ (d : DeviceState). after_power none_complete no_sessions d) starts.rest ∙ first_quiet config) both.0 in
     record { stands = stands; stored = both.1; empty = sym (outbox_is new (first_device config) stands) }
-
--- again
-pub again_rests : (old new : HeldDevice Cells) (r : Result (Unit {0}) OpenFault) → IsInFlash old.sessions.state
-    → ((device : DeviceState) → DeviceStands old device
-    → StateIsHeld old.sessions.state device.sessions (cells_seen old.sessions.flash.bytes) → (b : List ℕ) → b ≡ new.sessions.flash.bytes
-    → MatchResult r
-    (λ ok. DeviceStands new device
-    × StateIsStored new.sessions.state device.sessions (cells_seen new.sessions.flash.bytes)) (λ e. e ≡ fault.Flash))
-    → IfErr r (λ e. e ≡ fault.Flash → HasRisen 0 0)
-    → (d : DeviceState) → IsAtRest old d → IsAtRest new d
-again_rests old new r flash again rises d rests =
-    let held = held_of old.sessions.state d.sessions (cells_seen old.sessions.flash.bytes) flash rests.stored in
-    let both = no_fault r (again d rests.stands held new.sessions.flash.bytes refl) rises in
-    record { stands = both.0; stored = both.1; empty = sym (outbox_is new d both.0) ∙ outbox_is old d rests.stands ∙ rests.empty }

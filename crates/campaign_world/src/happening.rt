@@ -121,17 +121,9 @@ fn happen_at(device: &mut Device<CellFlash>, uplinks: &mut UplinkLog, id: u8, ev
             take_uplinks(id, device, uplinks);
         }
         Event::Raise => device.raise(),
-        Event::Power => restart(device),
-    }
-}
-
-/// Power comes to a device again. Where its sessions are only in memory no flash is called.
-fn restart(device: &mut Device<CellFlash>)
-    ensures { (d : DeviceState) → IsAtRest device.old d → IsAtRest device.new d }
-{
-    if device.is_held() {
-        // cells do not fail
-        let _powered = device.power();
+        // A script's flash keeps what is written and never fails, so a device that opened it again would find itself as it is
+        // (that is a law of `Device::power`): it need not be opened.
+        Event::Power => {}
     }
 }
 

@@ -1,7 +1,7 @@
 //! What a device knows besides its sessions, in a file: the bytes that it saves, the length of the file that runs in four bytes,
 //! the lowest first, that file, and the file that was received to run next.
 
-use device_core::{Device, DeviceConfig};
+use device_core::{Device, DeviceConfig, MAX_AREA};
 use file_flash::FileFlash;
 use std::fs::{File, Files, OpenOptions};
 use std::io::{ErrorKind, Write};
@@ -10,15 +10,25 @@ use std::{fs, io};
 /// The bytes that a device saves.
 const SAVED: usize = 492;
 
-/// Returns the device of a file, or a new one where there is no file; None where neither can be made.
+/// The most bytes of the file: those, four, and two files of the longest area.
+const MOST: u64 = SAVED as u64 + 4 + 2 * MAX_AREA as u64;
+
+/// Returns the device of a file, or a new one where there is no file; None where neither can be made. What is no regular file,
+/// or is longer than a device's can be, is not read: that is an error.
 pub fn restored(
     rt: &HostRuntime,
     config: DeviceConfig,
     flash: FileFlash,
     path: &str,
 ) -> io::Result<Option<Device<FileFlash>>> {
-    match fs::read(rt, path) {
-        Ok(bytes) => Ok(of_bytes(rt, config, flash, bytes.as_slice())),
+    match fs::metadata(rt, path) {
+        Ok(told) => {
+            if !told.is_file() || told.len() > MOST {
+                return Err(io::Error::from(ErrorKind::InvalidData));
+            }
+            let bytes = fs::read(rt, path)?;
+            Ok(of_bytes(rt, config, flash, bytes.as_slice()))
+        }
         Err(error) => {
             if error.kind() == ErrorKind::NotFound {
                 Ok(Device::reserve(rt.alloc(), config, flash).ok())

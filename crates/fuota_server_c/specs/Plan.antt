@@ -1,5 +1,5 @@
 -- What a server has to do, as C says it, and the server that is made from it.
-use Rattle.std.specs.Prelude.{◌≡◌, ◌⊎◌, ℕ, Bool, true, false, List, length, map, Option, Some, None}
+use Rattle.std.specs.Prelude.{◌≡◌, ◌⊎◌, ℕ, suc, Bool, true, false, List, length, map, Option, Some, None}
 use Rattle.image_slots.specs.Image.{is_image}
 use Rattle.mc_keys.specs.declared.root_kind.RootKind.{RootKind}
 use Rattle.mc_keys.specs.declared.root_kind.RootKind.TheVariants.{V10, V11}
@@ -10,7 +10,7 @@ use Rattle.campaign_server.specs.declared.plan.Kind.TheVariants as kind
 use Rattle.campaign_server.specs.declared.plan.PlanDevice.{PlanDevice}
 use Rattle.campaign_server.specs.declared.plan.PlanGroup.{PlanGroup}
 use Rattle.campaign_server.specs.declared.plan.PlanWindow.{PlanWindow}
-use Rattle.campaign_server.specs.Plan.{Plan, bad_field}
+use Rattle.campaign_server.specs.Plan.{Plan, bad_field, max_devices}
 use Rattle.campaign_server.specs.Server.{ServerState, first_server}
 use Rattle.c_base.specs.Answer.{done, range, no_memory, refused}
 use Rattle.fuota_server_c.specs.declared.plan.PlanDeviceFields.{PlanDeviceFields}
@@ -60,6 +60,10 @@ plan_of fields devices = record {
   window = window_of fields;
   devices = map device_of devices;
 }
+
+-- the most devices that are copied out of C's
+abbrev pub most_copied : ℕ
+most_copied = suc max_devices
 
 -- ---- the server
 

@@ -1,7 +1,7 @@
 //! What a server has to do, as C says it.
 
-ghost use Rattle.std.specs.Prelude.{◌≡◌, IfOk, map};
-ghost use Rattle.fuota_server_c.specs.Plan.{plan_of, group_of, window_of, kind_of, device_of, root_of, field_number};
+ghost use Rattle.std.specs.Prelude.{◌≡◌, IfOk, map, take};
+ghost use Rattle.fuota_server_c.specs.Plan.{plan_of, most_copied, group_of, window_of, kind_of, device_of, root_of, field_number};
 
 use campaign_server::{Field, Kind, Plan, PlanDevice, PlanGroup, PlanWindow};
 use mc_keys::RootKind;
@@ -38,15 +38,18 @@ pub struct PlanFields {
     pub key: [u8; 16],
 }
 
-/// Makes the plan of these fields, for these devices.
+/// The most devices that are copied: a plan of one more than there may be is refused as one of any more.
+const MOST_COPIED: usize = 65;
+
+/// Makes the plan of these fields, for the first of these devices.
 pub fn plan_of(
     alloc: Global,
     fields: &PlanFields,
     devices: &[PlanDeviceFields],
 ) -> Result<Plan, AllocError>
-    ensures { IfOk result (λ plan. plan ≡ plan_of fields.now devices.now) }
+    ensures { IfOk result (λ plan. plan ≡ plan_of fields.now (take most_copied devices.now)) }
 {
-    let devices = devices_of(alloc, devices)?;
+    let devices = devices_of(alloc, &devices[..devices.len().min(MOST_COPIED)])?;
     Ok(Plan {
         frag_size: fields.frag_size,
         parity: fields.parity,

@@ -1,7 +1,7 @@
 use Rattle.device_core.proofs.Keeping.{no_rise}
 use Rattle.campaign_world.proofs.Outboxes.{stored_aside}
 use Rattle.campaign_world.proofs.OutboxRoom.{delivered_few, aired_few, woken_few}
-use Rattle.campaign_world.proofs.AtRest.{all_taken, none_held, raised, restarted}
+use Rattle.campaign_world.proofs.AtRest.{all_taken, none_held, raised, undisturbed}
 use Rattle.campaign_world.proofs.happening.happen_at.Goals as goal
 
 pub returns-in-Deliver : goal.returns-in-Deliver
@@ -35,4 +35,4 @@ pub returns-in-Raise : goal.returns-in-Raise
 returns-in-Raise c = rw (c.in-Raise.is) (raised c.args.id c.args.device.now _ _ c.raise.ensures.becomes c.raise.ensures.aside)
 
 pub returns-in-Power : goal.returns-in-Power
-returns-in-Power c = rw (c.in-Power.is) (restarted c.args.id c.args.device.now _ _ c.restart.ensures)
+returns-in-Power c = rw (c.in-Power.is) (undisturbed c.args.id _ _)
