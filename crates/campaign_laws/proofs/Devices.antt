@@ -15,7 +15,7 @@ use Rattle.frag_session.specs.declared.answers.Via.TheVariants as via
 use Rattle.device_core.specs.declared.arrival.Arrival.{Arrival}
 use Rattle.device_core.specs.declared.config.Class.TheVariants as class
 use Rattle.device_core.specs.declared.uplink.Uplink.{Uplink}
-use Rattle.device_core.specs.Device.{DeviceState, max_area, large_size}
+use Rattle.device_core.specs.Device.{DeviceState, max_area, size_for}
 use Rattle.device_core.specs.Answers.{DeviceStep, uplink_of, after_answers, one_answer}
 use Rattle.device_core.specs.ClassSessions.{hears}
 use Rattle.device_core.specs.Firmware.{after_due_reboot}
@@ -41,7 +41,7 @@ pub record IsPlainConfig (c : Configuration) : Type 0 where
   pub sessions : c.sessions ≡ 4
   pub area : c.area ≡ max_area
   pub memory : c.held ≡ false
-  pub size : c.size ≡ large_size
+  pub size : c.size ≡ size_for 64
 
 pub record IsPlain (d : DeviceState) : Type 0 where
   pub config : IsPlainConfig d.config

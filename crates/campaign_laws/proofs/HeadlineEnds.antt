@@ -17,7 +17,7 @@ use Rattle.package_grammar.specs.declared.command.Command.TheVariants.{Sync, Cas
 use Rattle.package_grammar.specs.declared.downlink.To.TheVariants.{Unicast}
 use Rattle.device_core.specs.Configuration.{Configuration}
 use Rattle.device_core.specs.SessionTable.{SessionTable, session_at}
-use Rattle.device_core.specs.Device.{DeviceState, limits_of, max_area, max_rows, large_size}
+use Rattle.device_core.specs.Device.{DeviceState, limits_of, max_area, max_rows, size_for}
 use Rattle.campaign_server.specs.declared.plan.Kind.{Kind}
 use Rattle.campaign_server.specs.declared.plan.Kind.TheVariants as kind
 use Rattle.campaign_server.specs.declared.plan.PlanGroup.{PlanGroup}
@@ -106,7 +106,7 @@ pub record IsBounded (config : Configuration) : Type 0 where
   pub area : config.area ≡ max_area
   pub rows : config.rows ≤ max_rows
   pub flash : config.span ≡ span_of config.held
-  pub size : config.size ≡ large_size
+  pub size : config.size ≡ size_for config.rows
 
 -- the session has the rows that the device keeps, or a row a piece
 abbrev pub HasRows : List ℕ → Cut → Configuration → Session → Type 0

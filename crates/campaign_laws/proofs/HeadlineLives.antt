@@ -1,10 +1,10 @@
 -- A device to which the setup was brought, and that takes its descriptor, has its session.
-use Rattle.std.proofs.Common.{◌≡◌, ℕ, zero, suc, ◌*◌, ◌^◌, ◌<◌, ◌≤◌, ◌+◌, Bool, true, false, nat_le, List, length, min, drop, All, Option, None, Some, is_some, Ok, refl, ap, ◌∙◌, subst, arith, ne_eqb, le-ltb, length-drop, mul-le-mul}
+use Rattle.std.proofs.Common.{◌≡◌, ℕ, zero, suc, ◌*◌, ◌^◌, ◌<◌, ◌≤◌, ◌+◌, Bool, true, false, nat_le, List, length, min, drop, All, Option, None, Some, is_some, Ok, refl, ap, ◌∙◌, subst, arith, ne_eqb, le-ltb, length-drop}
 use Rattle.std.proofs.lemmas.Bool.{le-leb}
 use Rattle.std.proofs.lemmas.Bool.Decides.{nat_tests}
 use Rattle.std.proofs.lemmas.Grind.{div_ceil_times}
 use Rattle.frag_encoder.specs.Encoding.{nb_frag_of, padding_of}
-use Rattle.row_elimination.specs.Room.{words_for, has_room}
+use Rattle.row_elimination.specs.Room.{has_room}
 use Rattle.frag_session.specs.declared.setups.SetupReq.{SetupReq}
 use Rattle.frag_session.specs.Setup.{flash_for, too_long, wrong_coding, too_large, other_descriptor, setup_bits}
 use Rattle.frag_session.specs.Session.{Session}
@@ -12,9 +12,8 @@ use Rattle.image_slots.specs.Image.{is_image, firmware_of}
 use Rattle.image_slots.proofs.ImageLemmas.{image_long, image_short}
 use Rattle.package_grammar.specs.declared.command.Command.{Command}
 use Rattle.device_core.specs.Configuration.{Configuration}
-use Rattle.device_core.specs.Device.{limits_of, room_of, max_area, max_rows, row_words, row_bytes, large_size, session_extent}
+use Rattle.device_core.specs.Device.{limits_of, room_of, max_area, size_for, session_extent}
 use Rattle.frag_model.specs.Limits.{max_frag_size, max_pieces}
-use Rattle.row_elimination.specs.HeldTable.{max_line_words}
 use Rattle.campaign_world.specs.Making.{flash_span, span_of}
 use Rattle.campaign_world.specs.World.{WorldState, first_world}
 use Rattle.campaign_world.specs.Said.{Line}
@@ -26,6 +25,7 @@ use Rattle.campaign_laws.specs.Headline.{Brings}
 use Rattle.campaign_laws.specs.Lives.{SessionsLive}
 use Rattle.campaign_server.proofs.LineItems.{within}
 use Rattle.campaign_laws.proofs.HeadlineCommands.{Cut, cut_of, setup_req, setup_request, IsCut}
+use Rattle.session_store.proofs.SizedRooms.{size_is_for, room_for}
 use Rattle.campaign_laws.proofs.HeadlineEnds.{IsBounded}
 use Rattle.campaign_laws.proofs.HeadlineWorlds.{StandsIn}
 use Rattle.campaign_laws.proofs.HeadlineLines.{ended, campaign_reads, campaign_device}
@@ -42,26 +42,17 @@ some_piece : (len size n : ℕ) → 1 ≤ len → len ≤ n * size → 1 ≤ n
 some_piece len size zero some fits = absurd (omega (arith, some, fits))
 some_piece len size (suc n) some fits = omega arith
 
-few_words : (n : ℕ) → n ≤ max_pieces → words_for n ≤ max_line_words
-unfolding words_for
-few_words n few = omega (arith, few)
-
-min_first : (a b : ℕ) → min a b ≤ a
-min_first a b = grind (arith, nat_tests)
-
 room_there : (config : Configuration) (pieces size : ℕ) → IsBounded config → pieces ≤ max_pieces → size ≤ max_frag_size
     → pieces * size ≤ max_area → has_room config.size.words config.size.bytes (session_extent config.size config.area) pieces size (min config.rows pieces) ≡ true
 unfolding has_room
 room_there config pieces size k few small fits =
-    let rows : min config.rows pieces ≤ max_rows = omega (arith, min_first config.rows pieces, k.rows) in
-    let words : min config.rows pieces * words_for pieces ≤ max_rows * max_line_words = mul-le-mul rows (few_words pieces few) in
-    let bytes : min config.rows pieces * size ≤ max_rows * max_frag_size = mul-le-mul rows small in
+    let is = size_is_for config.rows k.rows in
     let area : pieces * size ≤ config.area = omega (arith, fits, k.area) in
     rw (
       k.size,
-      le-leb (min config.rows pieces * words_for pieces) row_words (omega (arith, words)),
-      le-leb (min config.rows pieces * size) row_bytes (omega (arith, bytes)),
+      room_for config.rows pieces size (size_for config.rows) (session_extent (size_for config.rows) config.area) is few small,
       le-leb (pieces * size) config.area area,
+      is.pieces,
       le-leb pieces max_pieces few,
     ) refl
 

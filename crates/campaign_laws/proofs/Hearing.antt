@@ -15,7 +15,7 @@ use Rattle.image_slots.specs.declared.view.ImageState.TheVariants as state
 use Rattle.image_slots.specs.Image.{is_image, format_of, lowest_of, highest_of, is_for, is_unknown, firmware_of, image_state}
 use Rattle.image_slots.specs.Slots.{Slots, after_offer}
 use Rattle.device_core.specs.Answers.{after_answers}
-use Rattle.device_core.specs.Device.{DeviceState, room_of, limits_of, max_area, row_words}
+use Rattle.device_core.specs.Device.{DeviceState, room_of, limits_of, max_area, size_for}
 use Rattle.frag_model.specs.Limits.{max_pieces}
 use Rattle.device_core.specs.Firmware.{after_due_reboot}
 use Rattle.device_core.specs.Fragments.{is_complete, slots_after, heard_step, fragment_step}
@@ -70,7 +70,7 @@ no_bits image d made plain =
     let b : nat_le 64 (padding_of (length image) 64) ≡ false = grind (arith, h.last) in
     let c : nat_lt max_pieces m ≡ false = grind (arith, h.high) in
     let e : min 64 m ≡ 64 = omega (arith, h.low) in
-    let f : nat_le (64 * ((m + 63) / 64)) row_words ≡ true = (let small : (m + 63) / 64 ≤ 3 = omega (arith, h.high) in grind (arith, small)) in
+    let f : nat_le (64 * ((m + 63) / 64)) (size_for 64).words ≡ true = (let small : (m + 63) / 64 ≤ 3 = omega (arith, h.high) in grind (arith, small)) in
     let g : nat_le (m * 64) max_area ≡ true = grind (arith, h.high) in
     let n : nat_le m max_pieces ≡ true = grind (arith, h.high) in
     rw (plain.config.size, plain.config.sessions, plain.config.rows, plain.config.descriptor, plain.config.area, plain.config.memory, a, b, c, e, f, g, n) refl

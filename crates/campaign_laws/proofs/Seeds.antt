@@ -23,7 +23,6 @@ use Rattle.campaign_server.specs.declared.stage.Request.TheVariants as request
 use Rattle.campaign_server.specs.Plan.{Plan}
 use Rattle.campaign_server.specs.Server.{ServerState, first_server}
 use Rattle.wire_base.specs.Numbered.{numbered}
-use Rattle.script_lines.specs.declared.forms.Class.TheVariants as class
 use Rattle.script_lines.specs.declared.forms.DeviceLine.{DeviceLine}
 use Rattle.script_lines.specs.declared.forms.Form.{Form}
 use Rattle.script_lines.specs.declared.forms.Form.TheVariants.{Header, Image, Device, End}

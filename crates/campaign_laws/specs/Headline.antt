@@ -20,7 +20,7 @@ use Rattle.device_core.specs.declared.config.Class.{Class as DeviceClass}
 use Rattle.device_core.specs.declared.config.Class.TheVariants as device_class
 use Rattle.device_core.specs.Configuration.{Configuration}
 use Rattle.device_core.specs.SessionTable.{SessionTable, session_at}
-use Rattle.device_core.specs.Device.{DeviceState, max_area, large_size}
+use Rattle.device_core.specs.Device.{DeviceState, max_area, size_for}
 use Rattle.campaign_world.specs.Making.{formats_of, root_of, span_of}
 use Rattle.device_core.specs.ClassSessions.{hears}
 use Rattle.device_core.specs.Firmware.{after_due_reboot}
@@ -79,7 +79,7 @@ pub record IsConfigured (lines : List Line) (id : ℕ) (config : Configuration) 
   pub area_is : config.area ≡ max_area
   pub held_is : config.held ≡ dev.flash
   pub span_is : config.span ≡ span_of dev.flash
-  pub size_is : config.size ≡ large_size
+  pub size_is : config.size ≡ size_for dev.rows
 
 -- the configuration is that of the device's line
 abbrev pub IsOfItsLine : List Line → (id : ℕ) → Configuration → Type 0

@@ -7,6 +7,7 @@ use Rattle.mc_keys.specs.declared.root_kind.RootKind.{RootKind}
 use Rattle.mc_keys.specs.declared.root_kind.RootKind.TheVariants.{V10, V11}
 use Rattle.device_core.specs.declared.config.Class.TheVariants as device_class
 use Rattle.device_core.specs.Device.{DeviceState}
+use Rattle.session_store.specs.Size.{Size}
 use Rattle.device_core.specs.WorkedConfig.{worked_config}
 use Rattle.campaign_server.specs.declared.plan.Kind.TheVariants as kind
 use Rattle.campaign_server.specs.Plan.{Plan}
@@ -239,6 +240,10 @@ planned_by form = (after_form (first_world worked_image) form).server.plan
 abbrev pub section_behind : Form → Section
 section_behind form = (after_form (first_world worked_image) form).section
 
+-- 16 rows for any file
+abbrev pub size_16 : Size
+size_16 = record { pieces = 4096; words = 1024; bytes = 3824 }
+
 pub record ArePlanned : Type 0 where
   pub image : planned_by (Image 13 4 2) ≡ record first_plan { frag_size = 13; parity = 4; index = 2 }
   pub group : planned_by (Group 2 7 (8 ∷ []) 5 9) ≡ record first_plan { group = Some (record { id = 2; addr = 7; key = 8 ∷ []; min = 5; max = 9 }) }
@@ -259,9 +264,10 @@ pub record ArePlanned : Type 0 where
     descriptor = Some 10;
     held = true;
     span = 631573;
+    size = size_16;
   }
   pub plain : config_of (worked_line class.C None false)
-      ≡ record (worked_config device_class.C 9) { hw = 7; rows = 3; key = 8 ∷ [] }
+      ≡ record (worked_config device_class.C 9) { hw = 7; rows = 3; key = 8 ∷ []; size = size_16 }
 
 -- ---- two sessions of a stranger, and what a summary counts
 

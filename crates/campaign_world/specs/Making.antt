@@ -10,7 +10,7 @@ use Rattle.device_core.specs.declared.config.Class.{Class as DeviceClass}
 use Rattle.device_core.specs.declared.config.Class.TheVariants as device_class
 use Rattle.device_core.specs.Configuration.{Configuration}
 use Rattle.device_core.specs.declared.uplink.Uplink.{Uplink}
-use Rattle.device_core.specs.Device.{DeviceState, first_device, max_area, large_size}
+use Rattle.device_core.specs.Device.{DeviceState, first_device, max_area, size_for}
 use Rattle.device_core.specs.Events.{Event, Wakes, Receives, HearsBytes, Migrates, event_step, uplinks_taken}
 use Rattle.campaign_server.specs.Framing.{has_frame, frame_for}
 use Rattle.campaign_server.specs.declared.plan.PlanGroup.{PlanGroup}
@@ -81,7 +81,7 @@ config_of dev = record {
   area = max_area;
   held = dev.flash;
   span = span_of dev.flash;
-  size = large_size;
+  size = size_for dev.rows;
 }
 
 abbrev pub device_of : DeviceLine → DeviceState

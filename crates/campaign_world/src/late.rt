@@ -3,7 +3,7 @@
 ghost use Rattle.std.specs.Prelude.{◌≡◌, ℕ, true, None, IfOk, option_map, replicate};
 ghost use Rattle.device_core.specs.Device.{first_device, is_config};
 ghost use Rattle.device_core.specs.HeldDevice.{Starts};
-ghost use Rattle.device_core.specs.Configuration.{Configuration, at_full_size};
+ghost use Rattle.device_core.specs.Configuration.{Configuration, at_least_size};
 ghost use Rattle.campaign_world.specs.HeldLate.{HasSpan, IsAtRest};
 
 use device_core::{Device, DeviceConfig, ReserveError};
@@ -22,7 +22,7 @@ pub struct LateDevice {
 
 impl Model for LateDevice {
     ghost use Rattle.std.specs.Prelude.{◌≡◌, true};
-    ghost use Rattle.device_core.specs.Configuration.{at_full_size};
+    ghost use Rattle.device_core.specs.Configuration.{at_least_size};
     ghost use Rattle.device_core.specs.Device.{is_config};
     ghost use Rattle.std.specs.Prelude.{option_map};
     ghost use Rattle.campaign_world.specs.HeldLate.{Late, HasSpan};
@@ -30,20 +30,20 @@ impl Model for LateDevice {
     ghost Value = { Late };
 
     ghost view = { λ d. record {
-      config = at_full_size d.config;
+      config = at_least_size d.config;
       device = option_map (λ device. device.value) d.device;
     } };
 
     ghost invariant = { λ d.
-        (is_config (at_full_size d.config) ≡ true) × HasSpan (at_full_size d.config) };
+        (is_config (at_least_size d.config) ≡ true) × HasSpan (at_least_size d.config) };
 }
 
 impl LateDevice {
     /// Makes a device without an event.
     pub fn new(config: DeviceConfig) -> Self
-        requires fine { is_config (at_full_size config) ≡ true }
-        requires span { HasSpan (at_full_size config) }
-        ensures { result ≡ record { config = at_full_size config; device = None } }
+        requires fine { is_config (at_least_size config) ≡ true }
+        requires span { HasSpan (at_least_size config) }
+        ensures { result ≡ record { config = at_least_size config; device = None } }
     {
         LateDevice {
             config,
@@ -63,7 +63,7 @@ impl LateDevice {
 
     /// Returns its configuration.
     pub fn config(&self) -> DeviceConfig
-        ensures { at_full_size result ≡ self.now.config }
+        ensures { at_least_size result ≡ self.now.config }
     {
         self.config
     }
@@ -73,14 +73,14 @@ impl LateDevice {
 /// a whole device.
 #[inline(never)]
 pub fn created(alloc: Global, config: DeviceConfig) -> Result<Box<Device<CellFlash>>, AllocError>
-    requires fine { is_config (at_full_size config) ≡ true }
-    requires span { HasSpan (at_full_size config) }
+    requires fine { is_config (at_least_size config) ≡ true }
+    requires span { HasSpan (at_least_size config) }
     ensures { IfOk result
-        (λ device. IsAtRest device.value (first_device (at_full_size config))) }
+        (λ device. IsAtRest device.value (first_device (at_least_size config))) }
 {
     let size = if config.held { 4 * config.span } else { 0 };
     let flash = CellFlash::reserve(alloc, size)?;
-    let mut device = match Device::reserve(alloc, config, flash) {
+    let mut device = match Device::reserve_least(alloc, config, flash) {
         Ok(device) => device,
         Err(ReserveError::Memory) => return Err(AllocError),
         Err(ReserveError::BadConfig) => unreachable!(),

@@ -2,7 +2,7 @@
 
 ghost use Rattle.std.specs.Prelude.{◌≡◌, ◌≤◌, ◌++◌, List, IfOk, codes, length, string_bytes};
 ghost use Rattle.std.specs.Fmt.{decimal};
-ghost use Rattle.device_core.specs.Configuration.{at_full_size};
+ghost use Rattle.device_core.specs.Configuration.{at_least_size};
 ghost use Rattle.device_core.specs.Device.{DeviceState, first_device};
 ghost use Rattle.report_lines.specs.Devices.{standing_of};
 ghost use Rattle.campaign_world.specs.HeldWorld.{DevicesRest};
@@ -109,7 +109,7 @@ pub fn device_part(
 
 /// The standing of a device without an event.
 fn first_standing(config: DeviceConfig) -> Standing
-    ensures { result ≡ standing_of (first_device (at_full_size config)) }
+    ensures { result ≡ standing_of (first_device (at_least_size config)) }
 {
     Standing {
         offset: config.offset,

@@ -1,7 +1,7 @@
 -- The configuration of a device together with the size of its sessions.
 use Rattle.std.specs.Prelude.{ℕ, Bool, List, Option}
 use Rattle.mc_keys.specs.declared.root_kind.RootKind.{RootKind}
-use Rattle.session_store.specs.Size.{Size, large_size}
+use Rattle.session_store.specs.Size.{Size, size_for, large_size}
 use Rattle.device_core.specs.declared.config.Class.{Class}
 use Rattle.device_core.specs.declared.config.DeviceConfig.{DeviceConfig}
 
@@ -40,6 +40,10 @@ configured size config = record {
   span = config.span;
   size = size;
 }
+
+-- with sessions of the least size that has its rows for any file
+abbrev pub at_least_size : DeviceConfig → Configuration
+at_least_size config = configured (size_for config.rows) config
 
 -- with sessions that have room for any file
 abbrev pub at_full_size : DeviceConfig → Configuration

@@ -14,7 +14,7 @@ use Rattle.device_core.specs.declared.counts.Counts.{Counts}
 use Rattle.device_core.specs.declared.uplink.Uplink.{Uplink}
 use Rattle.device_core.specs.SessionTable.{SessionTable, no_sessions}
 -- what is kept for the rows of a session
-pub use Rattle.session_store.specs.Size.{row_words, row_bytes, large_size, session_extent}
+pub use Rattle.session_store.specs.Size.{size_for, session_extent}
 
 -- clock: its offset and token; last_due: when the uplink made last is due, in ms of true time;
 -- groups: a place for each id; reboot: the moment that is set, in seconds of its clock;

@@ -35,7 +35,7 @@ use fragments::offer;
 use image_slots::Slots;
 use mc_group::GroupTable;
 use package_grammar::{Command, Downlink, DownlinkRef};
-use session_store::{FlashFault, SessionSize, SessionStore};
+use session_store::{FlashFault, SessionSize, SessionStore, size_for};
 use std::alloc::Global;
 use std::marker::Model;
 
@@ -92,7 +92,7 @@ impl<F: Flash + Drop> Device<F> {
     ghost use Rattle.device_core.specs.declared.delivered.Delivered.{Delivered};
     ghost use Rattle.device_core.specs.declared.delivered.OutboxFull.{OutboxFull};
     ghost use Rattle.session_store.specs.Size.{size_with};
-    ghost use Rattle.device_core.specs.Configuration.{configured, at_full_size};
+    ghost use Rattle.device_core.specs.Configuration.{configured, at_full_size, at_least_size};
     ghost use Rattle.device_core.specs.HeldDevice.{DeviceStands, Becomes, Makes, GoesAside, IsReserved, TakesOldest, device_of, held_with_answers};
     ghost use Rattle.device_core.specs.Sendable.{IsSendable, IsUplink};
 
@@ -104,6 +104,18 @@ impl<F: Flash + Drop> Device<F> {
         ensures { IsReserved (at_full_size config) (F.seen flash).room flash result }
     {
         Self::reserve_sized(alloc, config, SessionSize::Large, flash)
+    }
+
+    /// Makes a device as `reserve` does, whose sessions have the least size that has the configuration's rows for any file: it
+    /// refuses and hears what that of `reserve` does (`rows_decide` of `session_store`), and takes less memory.
+    pub fn reserve_least(
+        alloc: Global,
+        config: DeviceConfig,
+        flash: F,
+    ) -> Result<Self, ReserveError>
+        ensures { IsReserved (at_least_size config) (F.seen flash).room flash result }
+    {
+        Self::reserve_sized(alloc, config, size_for(config.rows), flash)
     }
 
     /// Makes a device as `reserve` does, whose sessions have room for files of a size alone, which takes less memory: a setup of

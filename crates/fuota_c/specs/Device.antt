@@ -5,7 +5,6 @@ use Rattle.package_grammar.specs.declared.downlink.To.{To}
 use Rattle.package_grammar.specs.declared.downlink.To.TheVariants.{Unicast, Group}
 use Rattle.package_grammar.specs.declared.downlink.Downlink.{Downlink}
 use Rattle.frag_session.specs.Session.{view_of}
-use Rattle.session_store.specs.declared.sizes.SessionSize.{SessionSize}
 use Rattle.session_store.specs.Size.{size_with}
 use Rattle.device_core.specs.Configuration.{Configuration, configured}
 use Rattle.device_core.specs.declared.config.DeviceConfig.{DeviceConfig}
@@ -27,7 +26,8 @@ use Rattle.device_core.specs.HeldSessions.{IsUp, IsDown}
 use Rattle.c_base.specs.Answer.{done, nothing, range, no_memory, refused, deaf, full, foreign, down, flash}
 use Rattle.c_base.specs.Bytes.{IsPut, Copied}
 use Rattle.fuota_c.specs.Config.{fits}
-use Rattle.fuota_c.specs.Size.{size_number}
+use Rattle.fuota_c.specs.declared.size.PartSize.{PartSize}
+use Rattle.fuota_c.specs.Size.{size_number, sessions_of}
 use Rattle.fuota_c.specs.declared.device.ArrivalFields.{ArrivalFields}
 use Rattle.fuota_c.specs.declared.device.UplinkFields.{UplinkFields}
 use Rattle.fuota_c.specs.declared.shown.ViewFields.{ViewFields}
@@ -55,7 +55,7 @@ CanNotMake parts = (2 < parts.size) ⊎ IsTrue (not (fits parts.config parts.byt
 
 -- the device is of that size
 abbrev pub OfSize : Parts → (Configuration → Type 0) → Type 0
-OfSize parts Is = (size : SessionSize) × (parts.size ≡ size_number size) × Is (configured (size_with size) parts.config)
+OfSize parts Is = (size : PartSize) × (parts.size ≡ size_number size) × Is (configured (size_with (sessions_of size)) parts.config)
 
 -- there is none where a number is out of its bounds, the flash has no room, or memory was missing
 abbrev pub IsNewDevice : Parts → Option (HeldDevice Cells) → (answer : ℕ) → Type 0

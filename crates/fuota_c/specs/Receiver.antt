@@ -20,8 +20,8 @@ use Rattle.row_elimination.specs.Room.{Extent}
 use Rattle.c_base.specs.Answer.{done, range, no_memory}
 use Rattle.c_base.specs.Bytes.{Whole, Copied}
 use Rattle.fuota_c.specs.declared.receiver.SetupFields.{SetupFields}
-use Rattle.session_store.specs.declared.sizes.SessionSize.{SessionSize}
-use Rattle.session_store.specs.declared.sizes.SessionSize.TheVariants as size
+use Rattle.fuota_c.specs.declared.size.PartSize.{PartSize}
+use Rattle.fuota_c.specs.declared.size.PartSize.TheVariants as size
 use Rattle.fuota_c.specs.declared.sized_receiver.Receiver.{Receiver}
 use Rattle.fuota_c.specs.declared.sized_receiver.Receiver.TheVariants as of_size
 use Rattle.fuota_c.specs.Shown.{file_or_none}
@@ -35,7 +35,7 @@ pub record Shape : Type 0 where
   pub piece : ℕ
   pub rows : ℕ
 
-abbrev pub shape_of : SessionSize → Shape
+abbrev pub shape_of : PartSize → Shape
 shape_of size.Small = record { pieces = 256; piece = 48; rows = 16 }
 shape_of size.Middle = record { pieces = 1024; piece = 48; rows = 64 }
 shape_of size.Large = record { pieces = 4096; piece = 64; rows = 256 }
@@ -58,13 +58,13 @@ slot_of (of_size.Small slot) = slot
 slot_of (of_size.Middle slot) = slot
 slot_of (of_size.Large slot) = slot
 
-abbrev pub size_of : Receiver → SessionSize
+abbrev pub size_of : Receiver → PartSize
 size_of (of_size.Small slot) = size.Small
 size_of (of_size.Middle slot) = size.Middle
 size_of (of_size.Large slot) = size.Large
 
 -- it is of this size, with the room for it, and stands for the session, or for none
-pub record ReceiverStands (size : SessionSize) (x : Receiver) (s : Option Session) : Type 0 where
+pub record ReceiverStands (size : PartSize) (x : Receiver) (s : Option Session) : Type 0 where
   pub size_is : size_of x ≡ size
   pub extent_is : extent_of (slot_of x) ≡ extent_for (shape_of size)
   pub stands : Stands (slot_of x) s

@@ -10,7 +10,7 @@ ghost use Rattle.fuota_c.specs.Device.{IsNewDevice, DeliversOrNot, WakesOrNot, T
 use crate::config::{ConfigFields, config_of, fits};
 use crate::device_handle::DeviceHandle;
 use crate::shown::{ViewFields, file_in, show};
-use crate::size::size_of;
+use crate::size::{sessions_of, size_of};
 use c_base::answer::{
     DEAF, DONE, DOWN, FLASH, FULL, NO_MEMORY, NO_OBJECT, NOTHING, RANGE, REFUSED,
 };
@@ -112,7 +112,7 @@ pub fn made(
     let Ok(flash) = CellFlash::of_bytes(alloc, bytes) else {
         return Err(NO_MEMORY);
     };
-    let device = match Device::reserve_sized(alloc, config, size, flash) {
+    let device = match Device::reserve_sized(alloc, config, sessions_of(size), flash) {
         Ok(device) => device,
         Err(ReserveError::BadConfig) => return Err(RANGE),
         Err(ReserveError::Memory) => return Err(NO_MEMORY),

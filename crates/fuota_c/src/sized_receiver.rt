@@ -7,10 +7,10 @@ ghost use Rattle.frag_session.specs.HeldView.{seen};
 ghost use Rattle.frag_session.specs.declared.answers.Via.TheVariants.{Unicast};
 ghost use Rattle.fuota_c.specs.Receiver.{ReceiverStands, SetsUp, Hears, Answers, size_of};
 
+use crate::size::PartSize;
 use cast_wire::fragment_at;
 use frag_session::{Idle, Limits, SetupReq, Slot, StatusAns, Via, View};
 use row_elimination::{Memory, Solver};
-use session_store::SessionSize;
 use std::alloc::Global;
 
 /// A row takes a word for each 64 pieces, and the bytes of a piece.
@@ -23,19 +23,19 @@ pub enum Receiver {
 
 /// Takes all memory that a receiver of a size ever uses: for 256 pieces of 48 bytes and 16 rows for coded fragments, 1,024 of 48
 /// and 64 rows, or 4,096 of 64 and 256 rows.
-pub fn new_receiver(alloc: Global, size: SessionSize) -> Result<Receiver, Memory>
+pub fn new_receiver(alloc: Global, size: PartSize) -> Result<Receiver, Memory>
     ensures { IfOk result (λ receiver. ReceiverStands size receiver None) }
 {
     match size {
-        SessionSize::Small => {
+        PartSize::Small => {
             let solver = Solver::reserve_for(alloc, 256 * 48, 256)?;
             Ok(Receiver::Small(Slot::new(Idle::new(solver))))
         }
-        SessionSize::Middle => {
+        PartSize::Middle => {
             let solver = Solver::reserve_for(alloc, 1024 * 48, 1024)?;
             Ok(Receiver::Middle(Slot::new(Idle::new(solver))))
         }
-        SessionSize::Large => {
+        PartSize::Large => {
             let solver = Solver::reserve_for(alloc, 4096 * 64, 4096)?;
             Ok(Receiver::Large(Slot::new(Idle::new(solver))))
         }

@@ -6,7 +6,7 @@ use Rattle.package_grammar.specs.declared.downlink.Downlink.{Downlink}
 use Rattle.package_grammar.specs.declared.downlink.To.TheVariants.{Unicast}
 use Rattle.mc_keys.specs.declared.root_kind.RootKind.TheVariants.{V10}
 use Rattle.device_core.specs.declared.config.Class.TheVariants as class
-use Rattle.device_core.specs.Device.{DeviceState, first_device, max_formats, max_sessions, max_area, large_size}
+use Rattle.device_core.specs.Device.{DeviceState, first_device, max_formats, max_sessions, max_area, size_for}
 use Rattle.device_core.specs.Events.{Receives, after_event}
 use Rattle.script_lines.specs.Lines.{lines_of}
 use Rattle.report_lines.specs.declared.faults.LineWhy.{LineWhy}
@@ -41,7 +41,7 @@ replay_device rows = first_device (record {
   area = max_area;
   held = false;
   span = 0;
-  size = large_size;
+  size = size_for rows;
 })
 
 -- a payload on port 201, down, by unicast

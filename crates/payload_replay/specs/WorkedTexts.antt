@@ -77,7 +77,7 @@ pub record AreTexts : Type 0 where
   pub long_header : header_rows (replicate 601 114) ≡ Err why.Limit
   pub header_of_capture : header_rows (codes "capture 1 2") ≡ Err why.Syntax
   -- the device that hears the payloads
-  pub hearer : (replay_device 7).config ≡ record (worked_config class.C 0) { hw = 0; rows = 7 }
+  pub hearer : (replay_device 7).config ≡ record (worked_config class.C 0) { hw = 0; rows = 7; size = record { pieces = 4096; words = 1024; bytes = 3824 } }
   -- two sessions, the counts before them
   pub replay : replay_text worked_device ≡ codes
       "fuota replay 1\ncounts deaf 0 refused 1 full 2 dropped 3\nsession 0 received 0 missing 2 receiving\nsession 2 received 0 missing 1 receiving\nend\n"

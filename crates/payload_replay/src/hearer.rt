@@ -3,7 +3,7 @@
 ghost use Rattle.report_lines.specs.Texts.{IsText};
 ghost use Rattle.std.specs.Prelude.{◌≡◌, ◌≤◌, ◌++◌, length, codes};
 ghost use Rattle.wire_base.specs.Payload.{max_payload};
-ghost use Rattle.device_core.specs.Configuration.{at_full_size};
+ghost use Rattle.device_core.specs.Configuration.{at_least_size};
 ghost use Rattle.device_core.specs.Device.{DeviceState};
 ghost use Rattle.device_core.specs.HeldDevice.{DeviceStands, Becomes};
 ghost use Rattle.payload_replay.specs.Headed.{rows_by, rows_of};
@@ -32,7 +32,7 @@ pub fn begin(alloc: Global, keyword: &str, header: &[u8]) -> Result<Device<CellF
     let Ok(flash) = CellFlash::reserve(alloc, 0) else {
         return Err(LineError::Memory);
     };
-    match Device::reserve(alloc, config(rows), flash) {
+    match Device::reserve_least(alloc, config(rows), flash) {
         Ok(device) => Ok(device),
         Err(_) => Err(LineError::Memory),
     }
@@ -41,7 +41,7 @@ pub fn begin(alloc: Global, keyword: &str, header: &[u8]) -> Result<Device<CellF
 /// The configuration of the device: class C, hardware version 0, a clock that is right, and so many rows. Its sessions are only
 /// in memory.
 fn config(rows: u16) -> DeviceConfig
-    ensures { at_full_size result ≡ (replay_device rows).config }
+    ensures { at_least_size result ≡ (replay_device rows).config }
 {
     DeviceConfig {
         class: Class::C,

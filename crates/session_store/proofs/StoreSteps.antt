@@ -5,7 +5,7 @@ use Rattle.flash_session.specs.Seen.{FlashSeen}
 use Rattle.session_store.specs.declared.flash_sessions.FlashSessions.{FlashSessions}
 use Rattle.session_store.specs.declared.flash_sessions.IdleSessions.{IdleSessions}
 use Rattle.session_store.specs.declared.held_slots.Layout.{Layout}
-use Rattle.session_store.specs.BySize.{places_in, idle_size}
+use Rattle.session_store.specs.BySize.{places_in}
 use Rattle.session_store.specs.Size.{Size, SizedLayout, laid_out}
 use Rattle.session_store.specs.declared.state.CompleteFlags.{CompleteFlags}
 use Rattle.session_store.specs.declared.state.State.{State}

@@ -8,7 +8,6 @@ use Rattle.flash_session.specs.declared.fault.OpenFault.TheVariants as why
 use Rattle.flash_session.specs.Layout.{records_place}
 use Rattle.flash_session.specs.Moments.{LeavesOnly}
 use Rattle.flash_session.specs.Seen.{FlashSeen}
-use Rattle.session_store.specs.declared.flash_sessions.IdleSessions.{IdleSessions}
 use Rattle.session_store.specs.declared.flash_sessions.IdleSessions.TheVariants as idle
 use Rattle.session_store.specs.declared.state.State.{State}
 use Rattle.session_store.specs.declared.state.State.TheVariants.{Memory, Flash, Down}

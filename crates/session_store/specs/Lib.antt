@@ -7,3 +7,4 @@ pub mod HeldPlaces
 pub mod HeldForeign
 pub mod HeldStore
 pub mod WorkedPlaces
+pub mod RowsDecide

@@ -1,12 +1,12 @@
 -- The sizes of a device's sessions, and the room for one (this project's profile).
-use Rattle.std.specs.Prelude.{ℕ, Bool, if◌then◌else◌, Some, None}
+use Rattle.std.specs.Prelude.{ℕ, ◌*◌, Bool, nat_le, if◌then◌else◌, Some, None}
 use Rattle.frag_model.specs.Limits.{max_pieces}
 use Rattle.frag_session.specs.declared.setups.Limits.{Limits}
 use Rattle.frag_session.specs.Setup.{Room, memory_room}
 use Rattle.row_elimination.specs.Room.{Extent}
 use Rattle.session_store.specs.declared.held_slots.Layout.{Layout}
 use Rattle.session_store.specs.declared.sizes.SessionSize.{SessionSize}
-use Rattle.session_store.specs.declared.sizes.SessionSize.TheVariants.{Small, Middle, Large}
+use Rattle.session_store.specs.declared.sizes.SessionSize.TheVariants.{Small, Middle, Rows16, Rows64, Large}
 
 -- so many pieces, and so many words of 64 columns and bytes for rows
 pub record Size : Type 0 where
@@ -30,14 +30,24 @@ small_size = record { pieces = 256; words = 64; bytes = 768 }
 abbrev pub middle_size : Size
 middle_size = record { pieces = 1024; words = 1024; bytes = 3072 }
 
--- any file
+-- any file, with so many rows of 4,096 columns and 239 bytes
+abbrev pub any_file : (rows : ℕ) → Size
+any_file rows = record { pieces = max_pieces; words = 64 * rows; bytes = 239 * rows }
+
+-- the largest
 abbrev pub large_size : Size
-large_size = record { pieces = max_pieces; words = row_words; bytes = row_bytes }
+large_size = any_file 256
+
+-- the least for any file that has so many rows
+abbrev pub size_for : (rows : ℕ) → Size
+size_for rows = any_file (if nat_le rows 16 then 16 else if nat_le rows 64 then 64 else 256)
 
 -- the numbers of each
 abbrev pub size_with : SessionSize → Size
 size_with Small = small_size
 size_with Middle = middle_size
+size_with Rows16 = any_file 16
+size_with Rows64 = any_file 64
 size_with Large = large_size
 
 -- what a session's memory is for, with so many bytes for its file

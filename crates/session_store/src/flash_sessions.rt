@@ -1,5 +1,4 @@
-//! The four sessions of a device in its flash, and their memory, of one of three sizes. Each call is handed on to those of that
-//! size.
+//! The four sessions of a device in its flash, and their memory, of one size. Each call is handed on to those of that size.
 
 ghost use Rattle.std.specs.Prelude.{◌≡◌, ℕ, ◌*◌, ◌<◌, ◌≤◌, List, IfOk, IfErr, IfSome, MatchResult, is_some, option_map, length};
 ghost use Rattle.flash_session.specs.Body.{FieldsFit};
@@ -19,8 +18,8 @@ ghost use Rattle.session_store.specs.Size.{size_with};
 
 use crate::held_slots::{HeldSlots, Idles, Layout};
 use crate::sizes::{
-    MIDDLE_BYTES, MIDDLE_PIECES, MIDDLE_WORDS, ROW_BYTES, ROW_WORDS, SMALL_BYTES, SMALL_PIECES,
-    SMALL_WORDS, SessionSize,
+    MIDDLE_BYTES, MIDDLE_PIECES, MIDDLE_WORDS, ROW_BYTES, ROW_WORDS, ROWS16_BYTES, ROWS16_WORDS,
+    ROWS64_BYTES, ROWS64_WORDS, SMALL_BYTES, SMALL_PIECES, SMALL_WORDS, SessionSize,
 };
 use crate::state::CompleteFlags;
 use flash_session::{Failed, Flash, OpenFault};
@@ -34,6 +33,8 @@ use std::alloc::Global;
 pub enum IdleSessions {
     Small(Idles<SMALL_WORDS, SMALL_BYTES>),
     Middle(Idles<MIDDLE_WORDS, MIDDLE_BYTES>),
+    Rows16(Idles<ROWS16_WORDS, ROWS16_BYTES>),
+    Rows64(Idles<ROWS64_WORDS, ROWS64_BYTES>),
     Large(Idles<ROW_WORDS, ROW_BYTES>),
 }
 
@@ -42,6 +43,8 @@ pub enum IdleSessions {
 pub enum FlashSessions {
     Small(HeldSlots<SMALL_PIECES, SMALL_WORDS, SMALL_BYTES>),
     Middle(HeldSlots<MIDDLE_PIECES, MIDDLE_WORDS, MIDDLE_BYTES>),
+    Rows16(HeldSlots<MAX_PIECES, ROWS16_WORDS, ROWS16_BYTES>),
+    Rows64(HeldSlots<MAX_PIECES, ROWS64_WORDS, ROWS64_BYTES>),
     Large(HeldSlots<MAX_PIECES, ROW_WORDS, ROW_BYTES>),
 }
 
@@ -50,6 +53,8 @@ macro_rules! hand_on {
         match $of {
             FlashSessions::Small($slots) => $call,
             FlashSessions::Middle($slots) => $call,
+            FlashSessions::Rows16($slots) => $call,
+            FlashSessions::Rows64($slots) => $call,
             FlashSessions::Large($slots) => $call,
         }
     };
@@ -79,6 +84,14 @@ impl IdleSessions {
             SessionSize::Middle => {
                 let idles = Idles::reserve(alloc, area, MIDDLE_PIECES)?;
                 Ok(IdleSessions::Middle(idles))
+            }
+            SessionSize::Rows16 => {
+                let idles = Idles::reserve(alloc, area, MAX_PIECES)?;
+                Ok(IdleSessions::Rows16(idles))
+            }
+            SessionSize::Rows64 => {
+                let idles = Idles::reserve(alloc, area, MAX_PIECES)?;
+                Ok(IdleSessions::Rows64(idles))
             }
             SessionSize::Large => {
                 let idles = Idles::reserve(alloc, area, MAX_PIECES)?;
@@ -114,6 +127,8 @@ impl FlashSessions {
         match idles {
             IdleSessions::Small(idles) => opened!(Small, HeldSlots::open(flash, idles, layout)),
             IdleSessions::Middle(idles) => opened!(Middle, HeldSlots::open(flash, idles, layout)),
+            IdleSessions::Rows16(idles) => opened!(Rows16, HeldSlots::open(flash, idles, layout)),
+            IdleSessions::Rows64(idles) => opened!(Rows64, HeldSlots::open(flash, idles, layout)),
             IdleSessions::Large(idles) => opened!(Large, HeldSlots::open(flash, idles, layout)),
         }
     }
@@ -224,6 +239,8 @@ impl FlashSessions {
         match self {
             FlashSessions::Small(slots) => IdleSessions::Small(slots.close()),
             FlashSessions::Middle(slots) => IdleSessions::Middle(slots.close()),
+            FlashSessions::Rows16(slots) => IdleSessions::Rows16(slots.close()),
+            FlashSessions::Rows64(slots) => IdleSessions::Rows64(slots.close()),
             FlashSessions::Large(slots) => IdleSessions::Large(slots.close()),
         }
     }

@@ -26,8 +26,8 @@ mod state;
 mod store;
 
 pub use held_slots::{HeldSlots, Idles, Layout};
-pub use laws::worked_places;
+pub use laws::{rows_decide, worked_places};
 pub use session_slots::SessionSlots;
-pub use sizes::SessionSize;
+pub use sizes::{SessionSize, size_for};
 pub use state::CompleteFlags;
 pub use store::{FlashFault, SessionStore};

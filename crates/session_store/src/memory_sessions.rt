@@ -1,4 +1,4 @@
-//! The four sessions of a device in memory, of one of three sizes. Each call is handed on to those of that size.
+//! The four sessions of a device in memory, of one size. Each call is handed on to those of that size.
 
 ghost use Rattle.std.specs.Prelude.{◌≡◌, ◌<◌, ◌≤◌, IfOk, IfSome, is_some, option_map, length};
 ghost use Rattle.frag_session.specs.Setup.{setup_bits};
@@ -11,8 +11,8 @@ ghost use Rattle.session_store.specs.Size.{memory_of};
 
 use crate::session_slots::SessionSlots;
 use crate::sizes::{
-    MIDDLE_BYTES, MIDDLE_PIECES, MIDDLE_WORDS, ROW_BYTES, ROW_WORDS, SMALL_BYTES, SMALL_PIECES,
-    SMALL_WORDS, SessionSize,
+    MIDDLE_BYTES, MIDDLE_PIECES, MIDDLE_WORDS, ROW_BYTES, ROW_WORDS, ROWS16_BYTES, ROWS16_WORDS,
+    ROWS64_BYTES, ROWS64_WORDS, SMALL_BYTES, SMALL_PIECES, SMALL_WORDS, SessionSize,
 };
 use frag_model::lines::MAX_PIECES;
 use frag_session::{Heard, Limits, SetupReq, StatusAns, Via, View};
@@ -24,6 +24,8 @@ use std::alloc::Global;
 pub enum MemorySessions {
     Small(SessionSlots<SMALL_WORDS, SMALL_BYTES>),
     Middle(SessionSlots<MIDDLE_WORDS, MIDDLE_BYTES>),
+    Rows16(SessionSlots<ROWS16_WORDS, ROWS16_BYTES>),
+    Rows64(SessionSlots<ROWS64_WORDS, ROWS64_BYTES>),
     Large(SessionSlots<ROW_WORDS, ROW_BYTES>),
 }
 
@@ -32,6 +34,8 @@ macro_rules! hand_on {
         match $of {
             MemorySessions::Small($slots) => $call,
             MemorySessions::Middle($slots) => $call,
+            MemorySessions::Rows16($slots) => $call,
+            MemorySessions::Rows64($slots) => $call,
             MemorySessions::Large($slots) => $call,
         }
     };
@@ -51,6 +55,14 @@ impl MemorySessions {
             SessionSize::Middle => {
                 let slots = SessionSlots::reserve(alloc, area, MIDDLE_PIECES)?;
                 Ok(MemorySessions::Middle(slots))
+            }
+            SessionSize::Rows16 => {
+                let slots = SessionSlots::reserve(alloc, area, MAX_PIECES)?;
+                Ok(MemorySessions::Rows16(slots))
+            }
+            SessionSize::Rows64 => {
+                let slots = SessionSlots::reserve(alloc, area, MAX_PIECES)?;
+                Ok(MemorySessions::Rows64(slots))
             }
             SessionSize::Large => {
                 let slots = SessionSlots::reserve(alloc, area, MAX_PIECES)?;

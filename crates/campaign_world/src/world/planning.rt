@@ -7,7 +7,7 @@ ghost use Rattle.campaign_server.specs.Server.{first_server};
 ghost use Rattle.campaign_world.specs.HeldLate.{HasSpan};
 ghost use Rattle.campaign_world.specs.World.{first_plan};
 ghost use Rattle.campaign_world.specs.Causes.{is_event_or_end, is_in_order};
-ghost use Rattle.device_core.specs.Configuration.{at_full_size};
+ghost use Rattle.device_core.specs.Configuration.{at_least_size};
 ghost use Rattle.device_core.specs.Device.{is_config, max_rows};
 ghost use Rattle.campaign_world.specs.Making.{with_plan, with_joined, with_flash, config_of, class_of, formats_of, root_of, span_of, after_form};
 ghost use Rattle.campaign_world.specs.declared.section.Section.TheVariants as section;
@@ -189,13 +189,13 @@ impl Planning {
 
     /// One device more.
     fn add_device(&mut self, id: u64, config: DeviceConfig) -> Result<(), AllocError>
-        requires fine { is_config (at_full_size config) ≡ true }
-        requires span { HasSpan (at_full_size config) }
+        requires fine { is_config (at_least_size config) ≡ true }
+        requires span { HasSpan (at_least_size config) }
         requires planning { IsPlanningOf self.old }
         requires joins { IsToJoin self.old.image.items self.old.plan self.old.devices.items }
         ensures planning { IsPlanningOf self.new }
         ensures taken { (lines : ℕ) → PlanTakes lines self.old self.new result
-            (λ world. with_joined world id (at_full_size config)) }
+            (λ world. with_joined world id (at_least_size config)) }
         ensures ends { OnErr result (SameEnds (planned_by self.old) (planned_by self.new)) }
     {
         add_flash(&mut self.flash, id, config.held)?;
@@ -324,7 +324,7 @@ fn config_of(line: &DeviceLine) -> DeviceConfig
     requires hw { line.now.hw < 2 ^ 32 }
     requires rows { line.now.rows ≤ max_rows }
     requires offset { line.now.offset < 2 ^ 32 }
-    ensures { at_full_size result ≡ config_of line.now }
+    ensures { at_least_size result ≡ config_of line.now }
 {
     DeviceConfig {
         class: class_of(line.class),

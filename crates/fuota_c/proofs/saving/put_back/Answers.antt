@@ -5,12 +5,13 @@ use Rattle.session_store.specs.Size.{size_with}
 use Rattle.device_core.specs.Configuration.{configured}
 use Rattle.device_core.specs.HeldDevice.{HeldDevice, Starts}
 use Rattle.device_core.specs.HeldSaving.{Restores, Resumes}
+use Rattle.fuota_c.specs.Size.{sessions_of}
 use Rattle.fuota_c.proofs.saving.put_back.Goals as goal
 
 pub returns-then-not-resume : goal.returns-then-not-resume
 returns-then-not-resume c =
     let new = c.in-Ok.ensures in
-    let config = configured (size_with new.2.0) c.args.config in
+    let config = configured (size_with (sessions_of new.2.0)) c.args.config in
     let flash = c.in-Ok.device.value.sessions.flash in
     let starts = subst (λ (x : HeldDevice Cells). Starts config flash x) (sym c.deref_mut.ensures.value) new.2.2.starts in
     let none = subst (λ (b : Bool). Resumes config flash c.args.saved.now c.args.running.now c.args.next.now c.resume.new.self b) c.if-not-resume.true
@@ -20,7 +21,7 @@ returns-then-not-resume c =
 pub returns-else-not-resume : goal.returns-else-not-resume
 returns-else-not-resume c =
     let new = c.in-Ok.ensures in
-    let config = configured (size_with new.2.0) c.args.config in
+    let config = configured (size_with (sessions_of new.2.0)) c.args.config in
     let flash = c.in-Ok.device.value.sessions.flash in
     let starts = subst (λ (x : HeldDevice Cells). Starts config flash x) (sym c.deref_mut.ensures.value) new.2.2.starts in
     let back = subst (λ (b : Bool). Resumes config flash c.args.saved.now c.args.running.now c.args.next.now c.resume.new.self b) c.if-not-resume.false

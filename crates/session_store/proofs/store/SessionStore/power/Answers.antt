@@ -1,8 +1,7 @@
-use Rattle.std.proofs.Common.{◌≡◌, refl, sym, ap, ◌∙◌}
+use Rattle.std.proofs.Common.{sym, ap}
 use Rattle.session_store.specs.declared.state.CompleteFlags.{CompleteFlags}
 use Rattle.session_store.specs.declared.state.State.TheVariants.{Down}
-use Rattle.session_store.specs.BySize.{places_in, idle_size}
-use Rattle.session_store.specs.HeldStore.{kept, size_in}
+use Rattle.session_store.specs.BySize.{places_in}
 use Rattle.session_store.specs.Size.{Size, SizedLayout, laid_out}
 use Rattle.session_store.proofs.PlaceSteps.{held_stands, lies_still}
 use Rattle.session_store.proofs.store.SessionStore.power.Goals as goal
