@@ -35,6 +35,7 @@ const SMALL = { size: Size.SMALL };
 // (with room for the records of small sessions)
 const SPAN = 30_000;
 const FLASH = { ...SMALL, span: SPAN, flash: new Uint8Array(4 * SPAN) };
+const STACK = 65_536;
 const KEYS = [new Uint8Array(16), { key: new Uint8Array(16), isV11: true }];
 const PLAN = { fragSize: 13, parity: 1 };
 const GROUP = { addr: 5, min: 0, max: 3, hasGroup: true, hasWindow: true };
@@ -344,6 +345,17 @@ await tried("the memory grows", () => {
   again.forEach((device) => device.free());
 });
 
+await tried("the memory grows within a call", async () => {
+  const few = await load(bytes);
+  const { fuota_heap_take: take, memory } = few.exports;
+  const { byteLength } = memory.buffer;
+  // (what is left has room for the words of a call, but not for a text beside them)
+  take(byteLength - take(8) - 3000);
+  assert.equal(memory.buffer.byteLength, byteLength);
+  assert(few.decode(200, false, new Uint8Array(242)).length > 4096);
+  assert(memory.buffer.byteLength > byteLength);
+});
+
 await tried("more memory than there is", async () => {
   const few = await load(bytes);
   const flash = Object.defineProperty(new Uint8Array(0), "length", { value: 2 ** 32 + 8 });
@@ -373,6 +385,13 @@ await tried("what the module is read from", async () => {
 await tried("another version", () => {
   assert.throws(() => new Library({ fuota_version: () => 0x0200 }), /of version 0\.2, and fuota\.mjs of 0\.1/);
   assert.deepEqual([library.version(), library.pointerBits()], [[0, 1, 0], 32]);
+});
+
+// (the stack lies at the front of the memory, which was zeros, and grows down)
+await tried("a quarter of the stack is enough", () => {
+  const stack = new Uint8Array(library.exports.memory.buffer, 0, STACK);
+  const most = STACK - stack.findIndex((byte) => byte !== 0);
+  assert(most > 1000 && most < STACK / 4, `${most} bytes`);
 });
 
 await tried("each call is made", () => {
