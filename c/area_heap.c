@@ -1,5 +1,6 @@
 /* A heap for the library in one area of FUOTA_HEAP_BYTES, for parts without malloc, or where the library is to take
- * nothing of theirs: compile it with -DFUOTA_HEAP_BYTES=16384, say, and link it before libfuota.a.
+ * nothing of theirs: compile it with -DFUOTA_HEAP_BYTES=16384, say, and link it before libfuota.a. In WebAssembly the area
+ * is all memory behind what the linker places, which is made longer where it is full.
  *
  * Blocks stand at multiples of 8, each behind 8 bytes of its own. The first free one that is long enough is taken; a
  * block that is given back becomes one with its free neighbours, so once all are given back the area is whole again.
@@ -14,12 +15,7 @@
 #include <stdint.h>
 #include <string.h>
 
-#ifndef FUOTA_HEAP_BYTES
-#error "FUOTA_HEAP_BYTES is the number of bytes of the area"
-#endif
-
 #define UNIT 8
-#define UNITS (FUOTA_HEAP_BYTES / UNIT)
 #define NONE UINT32_MAX
 
 /* A unit of the area. Before each block stands a head: the units of both, and of a free one the unit of the next
@@ -31,7 +27,20 @@ typedef union unit {
     uint64_t aligned;
 } unit;
 
+#ifdef __wasm__
+#define PAGE 65536
+#define UNITS ((uint32_t)(__builtin_wasm_memory_size(0) * PAGE - (size_t)area) / UNIT)
+#define LONGEST 0x7FFFFFFF
+extern unit area[] __asm__("__heap_base");
+#else
+#ifndef FUOTA_HEAP_BYTES
+#error "FUOTA_HEAP_BYTES is the number of bytes of the area"
+#endif
+#define UNITS (FUOTA_HEAP_BYTES / UNIT)
+#define LONGEST FUOTA_HEAP_BYTES
 static unit area[UNITS];
+#endif
+
 static uint32_t first; /* the first free head, in the order in which they stand; NONE where there is none */
 static uint32_t used, most;
 
@@ -64,17 +73,44 @@ static void join(uint32_t it) {
     area[it].head.next = area[next].head.next;
 }
 
+/* Makes the area longer by so many units at least, where it can be. */
+static int grow(uint32_t units) {
+#ifdef __wasm__
+    uint32_t pages = (units + PAGE / UNIT - 1) / (PAGE / UNIT), it = UNITS, last = before(it);
+    if (__builtin_wasm_memory_grow(0, pages) == (size_t)-1)
+        return 0;
+    area[it].head.units = pages * (PAGE / UNIT);
+    area[it].head.next = NONE;
+    link(last, it);
+    if (last != NONE)
+        join(last);
+    return 1;
+#else
+    (void)units;
+    return 0;
+#endif
+}
+
+/* The first free block of so many units at least; NONE where there is none. */
+static uint32_t found(uint32_t units) {
+    uint32_t it;
+    for (it = first; it != NONE && area[it].head.units < units;)
+        it = area[it].head.next;
+    return it;
+}
+
 void *fuota_heap_take(size_t size) {
     uint32_t it, units;
-    if (size > FUOTA_HEAP_BYTES)
+    if (size > LONGEST)
         return NULL;
     if (area[0].head.units == 0) { /* no block was ever taken */
         area[0].head.units = UNITS;
         area[0].head.next = NONE;
     }
     units = (uint32_t)((size + UNIT - 1) / UNIT) + 1;
-    for (it = first; it != NONE && area[it].head.units < units;)
-        it = area[it].head.next;
+    it = found(units);
+    if (it == NONE && grow(units))
+        it = found(units);
     if (it == NONE)
         return NULL;
     if (area[it].head.units > units) { /* what is left is free, of one unit too, which waits for its neighbours */

@@ -1,5 +1,6 @@
 """Makes objects and archives of a translated module by the toolchain's clang, which compiles for all processors."""
 import pathlib
+import re
 import subprocess
 import sys
 
@@ -9,6 +10,11 @@ from .targets import TARGETS, Target, Way
 
 HERE = pathlib.Path(__file__).resolve().parent
 C = HERE.parent.parent / "c"
+# What a module of WebAssembly hands out beside the calls of the header.
+HEAP = ("fuota_heap_take", "fuota_heap_give", "fuota_heap_used")
+# (The toolchain's clang has no headers, so the few that c/ takes are here.)
+FREE = ("-ffreestanding", "-nostdinc", "-isystem", str(HERE / "include"))
+STACK, FIRST_HEAP, LONGEST_MEMORY = 65536, 65536, 2**31
 
 
 def run(*words: str | pathlib.Path, by: pathlib.Path | None = None) -> str:
@@ -43,11 +49,11 @@ def translated(module: pathlib.Path, name: str, level: str, place: pathlib.Path)
     return made
 
 
-def compiled(source: str, name: str, level: str, place: pathlib.Path) -> pathlib.Path:
-    """The object of a file of c/ for a target. (The toolchain's clang has no headers, so the few that c/ takes are here.)"""
-    made = place / f"{source.removesuffix('.c')}.o"
-    free = ["-ffreestanding", "-nostdinc", "-isystem", str(HERE / "include")]
-    run(clang(), *options(TARGETS[name], level), *free, "-c", C / source, "-o", made)
+def compiled(source: str | pathlib.Path, name: str, level: str, place: pathlib.Path) -> pathlib.Path:
+    """The object of a file, as of c/, for a target."""
+    path = C / source
+    made = place / f"{path.stem}.o"
+    run(clang(), *options(TARGETS[name], level), *FREE, "-I", C, "-c", path, "-o", made)
     return made
 
 
@@ -61,4 +67,23 @@ def archive(modules: list[pathlib.Path], name: str, level: str, place: pathlib.P
     made = place / "libfuota.a"
     made.unlink(missing_ok=True)
     run("llvm-ar", "rcs", made, *objects, by=clang())
+    return made
+
+
+def wasm(modules: list[pathlib.Path], name: str, level: str, place: pathlib.Path) -> pathlib.Path:
+    """fuota.wasm, in a folder, of the kept modules of the crates."""
+    assert TARGETS[name].way is Way.WEB
+    objects = [*(translated(module, name, level, place) for module in modules),
+               *(compiled(source, name, level, place) for source in ("pointer_bits.c", "area_heap.c"))]
+    return linked_wasm(objects, place)
+
+
+def linked_wasm(objects: list[pathlib.Path], place: pathlib.Path, more: tuple[str, ...] = ()) -> pathlib.Path:
+    """fuota.wasm, in a folder: it imports nothing, and has a heap that grows. `more` are words of the linker. (The stack is
+    below all else, so that what runs out of it ends, and no address is above 2^31.)"""
+    calls = re.findall(r"^\w+ (fuota_\w+)\(", (C / "fuota.h").read_text(), re.M)
+    made = place / "fuota.wasm"
+    run("ld.lld", "-flavor", "wasm", "--no-entry", "--gc-sections", "--strip-all", "--stack-first", "-z", f"stack-size={STACK}",
+        f"--initial-heap={FIRST_HEAP}", f"--max-memory={LONGEST_MEMORY}", *(f"--export={call}" for call in (*calls, *HEAP)),
+        *objects, *more, "-o", made, by=kit() / "toolchain" / "bin" / "ld.lld")
     return made

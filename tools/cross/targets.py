@@ -8,6 +8,7 @@ class Way(Enum):
 
     TOOLCHAIN = "the toolchain proves and builds for it"
     TRANSLATED = "the module that was proved for x86-64 is translated"
+    WEB = "it is translated, and linked as a module of WebAssembly"
 
 
 @dataclass(frozen=True)
@@ -31,6 +32,7 @@ class Target:
 ARM = "e-m:e-p:32:32-Fi8-i64:64-v128:64:128-a:0:32-n32-S64"
 RISCV32 = "e-m:e-p:32:32-i64:64-n32-S128"
 RISCV64 = "e-m:e-p:64:64-i64:64-i128:128-n32:64-S128"
+WASM32 = "e-m:e-p:32:32-p10:8:8-p20:8:8-i64:64-i128:128-n32:64-S128-ni:1:10:20"
 X86_32 = "e-m:e-p:32:32-p270:32:32-p271:32:32-p272:64:64-i128:128-f64:32:64-f80:32-n8:16:32-S128"
 
 
@@ -50,6 +52,8 @@ TARGETS = {
     "rv32imac": Target("riscv32-unknown-elf", Way.TRANSLATED, 32, "s", ("-march=rv32imac", "-mabi=ilp32"), RISCV32),
     "riscv64": Target("riscv64-unknown-linux-gnu", Way.TRANSLATED, 64, "2", ("-fPIC", "-march=rv64gc", "-mabi=lp64d"),
                       RISCV64, signs=True),
+    # (of what engines added to the first WebAssembly it takes two things, which all have had since 2021)
+    "wasm32": Target("wasm32-unknown-unknown", Way.WEB, 32, "s", ("-mcpu=mvp", "-mbulk-memory", "-msign-ext"), WASM32),
     # (for tests/on_parts alone: valgrind looks at what the translated code does with its memory there)
     "x86_32": Target("i686-unknown-linux-gnu", Way.TRANSLATED, 32, "s", ("-fPIC", "-msse2"), X86_32, has_vectors=True,
                      is_checked=True),

@@ -7,4 +7,6 @@ typedef __UINT16_TYPE__ uint16_t;
 typedef __UINT32_TYPE__ uint32_t;
 typedef __UINT64_TYPE__ uint64_t;
 
+#define UINT32_MAX 0xFFFFFFFFu
+
 #endif
