@@ -297,7 +297,7 @@ def numbers(turn: int) -> str:
 
 def of_files() -> list[Input]:
     """Files of payloads."""
-    answer = payload_of(203, True, "DevDeleteImageAns bits=0")
+    answer = payload_of(200, True, "McClassCSessionAns id=3 bits=28 start=-")
     return [
         Input("`replay`", "256 rows of 4,096 pieces of 22 bytes are held, and their fragments come again", "line", (64, 192),
               f"missing {PIECES - ROWS} receiving", replayed(PIECES, ROWS), ("replay", "file"), ()),
@@ -305,8 +305,8 @@ def of_files() -> list[Input]:
               replayed(1024, 64), ("replay", "file"), ()),
         Input("`replay`, setups", "eight sessions of 4,096 pieces are set up", "setup", (64, 192), "session 3 ",
               Lines([f"replay 1 {ROWS}"], lambda _: EIGHT_SETUPS, []), ("replay", "file"), (), 8),
-        Input("`decode`", "12 commands a line", "line", (200, 600), "bits", Lines([], lambda _: (12 * answer).hex(), []),
-              ("decode", "203", "up", "file"), ()),
+        Input("`decode`", "12 refusals a line", "line", (200, 600), "bits=28", Lines([], lambda _: (12 * answer).hex(), []),
+              ("decode", "200", "up", "file"), ()),
         Input("`capture`", "as `replay`, of pieces of 5 bytes", "line", (64, 192), f"missing {PIECES - ROWS} receiving",
               captured(), ("capture", "file"), ()),
         Input("`capture`, numbers", "21 numbers between two floats", "line", (50, 150), "counts",
