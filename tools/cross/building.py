@@ -6,7 +6,7 @@ import sys
 
 from . import narrow
 from .keeping import kit
-from .targets import TARGETS, Target, Way
+from .targets import FOR_SIZE, TARGETS, Target, Way
 
 HERE = pathlib.Path(__file__).resolve().parent
 C = HERE.parent.parent / "c"
@@ -31,8 +31,10 @@ def clang() -> pathlib.Path:
 
 
 def options(target: Target, level: str) -> list[str]:
-    """What clang takes for a target: each function can be left out by the linker."""
-    return [f"--target={target.triple}", *target.flags, f"-O{level}", "-ffunction-sections", "-fdata-sections"]
+    """What clang takes for a target: each function can be left out by the linker, and for size, stretches of code that stand in
+    more places than one become functions."""
+    outlined = ["-mllvm", "-enable-machine-outliner=always"] if target.is_outlined and level in FOR_SIZE else []
+    return [f"--target={target.triple}", *target.flags, f"-O{level}", "-ffunction-sections", "-fdata-sections", *outlined]
 
 
 def translated(module: pathlib.Path, name: str, level: str, place: pathlib.Path) -> pathlib.Path:

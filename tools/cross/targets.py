@@ -15,7 +15,8 @@ class Way(Enum):
 class Target:
     """A processor. `layout` and `triple` are LLVM's, `flags` clang's; `tools` stands before the names of binutils and gcc
     where they are taken; `signs` says that C takes a result of 32 bits as widened by its sign; `has_vectors` that the
-    processor takes 16 bytes at a time; `is_checked` that each pointer that is read is looked at, for a test."""
+    processor takes 16 bytes at a time; `is_outlined` that for size what stands twice becomes a function; `is_checked` that each
+    pointer that is read is looked at, for a test."""
 
     triple: str
     way: Way
@@ -26,6 +27,7 @@ class Target:
     tools: str = ""
     signs: bool = False
     has_vectors: bool = False
+    is_outlined: bool = False
     is_checked: bool = False
 
 
@@ -39,7 +41,7 @@ X86_32 = "e-m:e-p:32:32-p270:32:32-p271:32:32-p272:64:64-i128:128-f64:32:64-f80:
 def cortex(architecture: str, name: str) -> Target:
     """A Cortex-M, without its unit for floating point, which the library does not use."""
     flags = (f"-mcpu={name}", "-mfloat-abi=soft", "-fshort-enums")
-    return Target(f"{architecture}-none-eabi", Way.TRANSLATED, 32, "s", flags, ARM)
+    return Target(f"{architecture}-none-eabi", Way.TRANSLATED, 32, "s", flags, ARM, is_outlined=True)
 
 
 TARGETS = {
@@ -49,7 +51,8 @@ TARGETS = {
     "cortex-m3": cortex("thumbv7m", "cortex-m3"),
     "cortex-m4": cortex("thumbv7em", "cortex-m4"),
     "cortex-m33": cortex("thumbv8m.main", "cortex-m33"),
-    "rv32imac": Target("riscv32-unknown-elf", Way.TRANSLATED, 32, "s", ("-march=rv32imac", "-mabi=ilp32"), RISCV32),
+    "rv32imac": Target("riscv32-unknown-elf", Way.TRANSLATED, 32, "s", ("-march=rv32imac", "-mabi=ilp32"), RISCV32,
+                       is_outlined=True),
     "riscv64": Target("riscv64-unknown-linux-gnu", Way.TRANSLATED, 64, "2", ("-fPIC", "-march=rv64gc", "-mabi=lp64d"),
                       RISCV64, signs=True),
     # (of what engines added to the first WebAssembly it takes two things, which all have had since 2021)
@@ -60,3 +63,4 @@ TARGETS = {
 }
 # Of a translated module; that of the toolchain is its own.
 LEVELS = ("1", "2", "3", "s", "z")
+FOR_SIZE = ("s", "z")
