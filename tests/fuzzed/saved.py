@@ -83,19 +83,20 @@ def is_uplink(told: bytes) -> bool:
 
 
 def is_device(state: bytes, config: Any, running: bytes, following: bytes) -> bool:
-    """A device of a configuration is restored that knows this, with these files. (Taken is also a class session of a group that
-    it has not, though no device comes there.)"""
+    """A device of a configuration is restored that knows this, with these files. (Taken is also a class session of a group, 0 to
+    3, that it has not, though no device comes there.)"""
     if len(state) != DEVICE or state[:5] != b"FUSD\1":
         return False
     is_b, periodicity, timeout = state[137], state[138], state[143]
     groups = (19 + 29 * k for k in range(4))
     uplinks, count = [state[at:at + 32] for at in range(204, DEVICE, 32)], state[203]
     version, found = int.from_bytes(state[187:191], "little"), state[186]
+    is_running = not running or image_state(running, config.hw, state[181]) == (int.from_bytes(state[182:186], "little"), 3)
     is_next = (version, found) == (image_state(following, config.hw, state[181]) if found else (0, 0))
     return (state[9] < 16 and all(is_option(state, at, size) for at, size in (*OPTIONS, (135, 8)))
             and not any(state[at] for at in list(groups)[config.groups:])
-            and is_b < 2 and periodicity < (8 if is_b else 1) and timeout < 16
-            and state[181] in (config.formats, 2) and is_next and (found > 0 or not following)
+            and state[136] < 4 and is_b < 2 and periodicity < (8 if is_b else 1) and timeout < 16
+            and state[181] in (config.formats, 2) and is_running and is_next and (found > 0 or not following)
             and state[191:199] == number(len(running), 4) + number(len(following), 4)
             and max(len(running), len(following)) <= config.area and max(state[FLAGS]) < 2 and count <= 8
             and all(is_uplink(told) for told in uplinks[:count]) and not any(any(told) for told in uplinks[count:]))

@@ -30,6 +30,9 @@ def restored_of(tried: Tried, saved: bytes, running: bytes, following: bytes) ->
     state = device_bent(draws, saved[:DEVICE])
     if is_one_of(draws, 6):
         running, state = with_file(draws, tried, state, 191)
+        if draws.randrange(4):
+            at = 13 if running[4] == 2 else 9
+            state = state[:182] + running[at:at + 4] + state[186:]
     if is_one_of(draws, 4):
         following, state = with_file(draws, tried, state, 195)
     sealed = device_sealed(state, config, span, running, following)

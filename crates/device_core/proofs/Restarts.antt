@@ -70,9 +70,8 @@ first_over config is offset = record {
   slots = record {
     formats = inl refl;
     version = omega arith;
-    running = omega arith;
-    next_file = omega arith;
-    next = inl (refl, refl);
+    sound = record { runs = inl (refl, tt); read = inl (refl, refl) };
+    room = record { running = omega arith; next_file = omega arith };
   };
   few = omega arith;
   uplinks = tt;

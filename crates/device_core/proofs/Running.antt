@@ -1,10 +1,8 @@
 -- A device runs nothing or an image for its hardware: what next says is kept true, and only a valid next comes to run.
-use Rattle.std.proofs.Common.{◌≡◌, ◌⊎◌, inl, inr, ℕ, Bool, true, false, cond, ◌==◌, List, [], ◌∷◌, Option, Some, None, Result, Ok, Err, refl, sym, ◌∙◌, subst}
-use Rattle.std.specs.Prelude.{◌&&◌, not}
-use Rattle.image_slots.specs.declared.view.ImageState.{ImageState}
-use Rattle.image_slots.specs.declared.view.ImageState.TheVariants as image
-use Rattle.image_slots.specs.Image.{format_of, is_image, is_for, is_unknown, firmware_of, image_state}
-use Rattle.image_slots.specs.Slots.{Slots, IsRead, after_offer, after_swap, delete_bits, after_delete, after_raise}
+use Rattle.std.proofs.Common.{◌≡◌, inl, ℕ, Bool, true, false, cond, List, [], ◌∷◌, Option, Some, None, Result, Ok, Err, refl, sym, ◌∙◌, subst}
+use Rattle.frag_session.specs.Session.{view_of}
+use Rattle.image_slots.specs.Slots.{Slots, AreSound}
+use Rattle.image_slots.proofs.Sound.{offered, swapped, deleted, raised}
 use Rattle.sync_wire.specs.declared.cmd.Cmd.{Cmd as SyncCmd}
 use Rattle.sync_wire.specs.declared.cmd.Cmd.TheVariants as s
 use Rattle.cast_wire.specs.declared.cmd.Cmd.{Cmd as CastCmd}
@@ -23,7 +21,7 @@ use Rattle.device_core.specs.declared.uplink.Uplink.{Uplink}
 use Rattle.device_core.specs.Device.{DeviceState, first_device}
 use Rattle.device_core.specs.Answers.{DeviceStep, after_answers}
 use Rattle.device_core.specs.Clock.{answer_step, periodicity_step, resync_step}
-use Rattle.device_core.specs.Fragments.{setup_step, delete_step, status_step, slots_after, heard_step, fragment_step}
+use Rattle.device_core.specs.Fragments.{setup_step, delete_step, status_step, whole_file, slots_after, heard_step, fragment_step}
 use Rattle.device_core.specs.Groups.{groups_step, group_setup_step, group_delete_step}
 use Rattle.device_core.specs.ClassSessions.{class_session_step}
 use Rattle.device_core.specs.Firmware.{version_step, upgrade_step, delete_image_step, reboot_time_step, countdown_step, after_due_reboot, after_migration}
@@ -31,103 +29,32 @@ use Rattle.device_core.specs.Step.{acts, command_step, step, after_commands}
 use Rattle.device_core.specs.Deliver.{Outcome, arrival, message_delivery, read_delivery, heard_delivery, delivery, time_asking, waking, with_due_reboot, taking}
 use Rattle.device_core.specs.Radio.{brought, after_frame, radio}
 use Rattle.device_core.specs.Events.{Event, after_event, Wakes, Receives, HearsBytes, Migrates}
-use Rattle.device_core.specs.Running.{Call, Delivers, Airs, Wakes as Awakes, Takes, Raises, after_call, after_calls, after_events, RunsImage, RunsImagesAlone}
-
--- ---- the two slots
-
--- what runs is an image, and what next says of its bytes is true
-record IsSound (hw : ℕ) (slots : Slots) : Type 0 where
-  runs : RunsImage hw slots
-  read : IsRead hw slots
-
-offered : (hw : ℕ) (file : List ℕ) (slots : Slots) → IsSound hw slots → IsSound hw (after_offer hw file slots)
-unfolding after_offer
-offered hw file slots k = record { runs = k.runs; read = inr refl }
-
--- a valid next that is read comes to run
-swap_of : (hw formats version : ℕ) (running : List ℕ) (next : ImageState) (next_file : List ℕ)
-    → let slots : Slots = record {
-      formats = formats;
-      version = version;
-      running = running;
-      next = next;
-      next_file = next_file;
-    } in
-    IsSound hw slots → IsSound hw (after_swap slots)
-unfolding after_swap
-swap_of hw formats version running (image.Valid held) next_file k = record { runs = inr (is_valid k.read); read = inl refl }
-  where
-    is_valid : (image.Valid held ≡ image.None) ⊎ (image.Valid held ≡ image_state next_file hw formats)
-        → image_state next_file hw formats ≡ image.Valid held
-    is_valid (inl none) = absurd cc
-    is_valid (inr read) = sym read
-swap_of hw formats version running image.None next_file k = k
-swap_of hw formats version running image.Corrupt next_file k = k
-swap_of hw formats version running image.Incompatible next_file k = k
-
-swapped : (hw : ℕ) (slots : Slots) → IsSound hw slots → IsSound hw (after_swap slots)
-swapped hw slots k = swap_of hw slots.formats slots.version slots.running slots.next slots.next_file k
-
-delete_by : (hw : ℕ) (slots : Slots) (b : Bool) → IsSound hw slots
-    → IsSound hw (cond b (record slots { next = image.None; next_file = [] }) slots)
-delete_by hw slots true k = record { runs = k.runs; read = inl refl }
-delete_by hw slots false k = k
-
-deleted : (hw version : ℕ) (slots : Slots) → IsSound hw slots → IsSound hw (after_delete version slots)
-unfolding after_delete
-deleted hw version slots k = delete_by hw slots (delete_bits slots.next version == 0) k
-
--- what is valid to a device stays so where it knows both formats
-still_by : (file : List ℕ) (hw v : ℕ) (two one known : Bool)
-    → cond {A = ImageState} (known && not (two && one)) (cond {A = ImageState} (is_for file hw) (image.Valid (firmware_of file)) image.Incompatible) image.Corrupt ≡ image.Valid v
-    → cond {A = ImageState} (known && not (two && false)) (cond {A = ImageState} (is_for file hw) (image.Valid (firmware_of file)) image.Incompatible) image.Corrupt ≡ image.Valid v
-still_by file hw v true true true is = absurd cc
-still_by file hw v true false true is = is
-still_by file hw v false one true is = is
-still_by file hw v two one false is = absurd cc
-
-still_valid : (file : List ℕ) (hw formats v : ℕ) → image_state file hw formats ≡ image.Valid v
-    → image_state file hw 2 ≡ image.Valid v
-unfolding image_state is_unknown
-still_valid file hw formats v is = still_by file hw v (format_of file == 2) (formats == 1) (is_image file) is
-
-raise_by : (hw : ℕ) (slots : Slots) (next : ImageState) → slots.next ≡ next → IsSound hw slots
-    → IsRead hw (after_raise hw slots)
-unfolding after_raise
-raise_by hw slots image.None is k = rw is (inl refl)
-raise_by hw slots image.Corrupt is k = rw is (inr refl)
-raise_by hw slots image.Incompatible is k = rw is (inr refl)
-raise_by hw slots (image.Valid version) is k = rw is (inr refl)
-
-raised : (hw : ℕ) (slots : Slots) → IsSound hw slots → IsSound hw (after_raise hw slots)
-unfolding after_raise
-raised hw slots k = record {
-  runs = runs_still k.runs;
-  read = raise_by hw slots slots.next refl k;
-}
-  where
-    runs_still : RunsImage hw slots → RunsImage hw (after_raise hw slots)
-    runs_still (inl none) = inl none
-    runs_still (inr valid) = inr (still_valid slots.running hw slots.formats slots.version valid)
+use Rattle.session_store.specs.declared.state.CompleteFlags.{CompleteFlags}
+use Rattle.device_core.specs.Power.{after_power}
+use Rattle.device_core.specs.SessionTable.{SessionTable}
+use Rattle.device_core.specs.Running.{Call, Delivers, Airs, Wakes as Awakes, Takes, Raises, Powers, after_call, after_calls, after_events, RunsImagesAlone}
 
 -- ---- a device
+
+abbrev IsZero : ℕ → Type 0
+IsZero version = version ≡ 0
 
 -- its configuration stays, and its slots stay sound
 record Keeps (d e : DeviceState) : Type 0 where
   config : e.config ≡ d.config
-  slots : IsSound d.config.hw d.slots → IsSound d.config.hw e.slots
+  slots : AreSound IsZero d.config.hw d.slots → AreSound IsZero d.config.hw e.slots
 
 same : (d e : DeviceState) → e.config ≡ d.config → e.slots ≡ d.slots → Keeps d e
 same d e config slots = record {
   config = config;
-  slots = λ k. subst (IsSound d.config.hw) (sym slots) k;
+  slots = λ k. subst (AreSound IsZero d.config.hw) (sym slots) k;
 }
 
 keeps_on : (d e f : DeviceState) → Keeps d e → Keeps e f → Keeps d f
 keeps_on d e f one more = record {
   config = more.config ∙ one.config;
-  slots = λ k. subst (λ (x : Configuration). IsSound x.hw f.slots) one.config
-      (more.slots (subst (λ (x : Configuration). IsSound x.hw e.slots) (sym one.config) (one.slots k)));
+  slots = λ k. subst (λ (x : Configuration). AreSound IsZero x.hw f.slots) one.config
+      (more.slots (subst (λ (x : Configuration). AreSound IsZero x.hw e.slots) (sym one.config) (one.slots k)));
 }
 
 device_by : (d e f : DeviceState) (b : Bool) → Keeps d e → Keeps d f → Keeps d (cond b e f)
@@ -152,13 +79,13 @@ unfolding command_step answer_step periodicity_step resync_step version_step upg
 sync_keeps at d s.PackageVersionReq = same d _ refl refl
 sync_keeps at d (s.DevDeleteImageReq version) = record {
   config = refl;
-  slots = λ k. deleted d.config.hw version d.slots k;
+  slots = λ k. deleted IsZero d.config.hw version d.slots k;
 }
 sync_keeps at d cmd = same d _ refl refl
 
-offers_keep : (hw : ℕ) (b : Bool) (file : Option (List ℕ)) (slots : Slots) → IsSound hw slots
-    → IsSound hw (slots_after hw b file slots)
-offers_keep hw false (Some file) slots k = offered hw file slots k
+offers_keep : (hw : ℕ) (b : Bool) (file : Option (List ℕ)) (slots : Slots) → AreSound IsZero hw slots
+    → AreSound IsZero hw (slots_after hw b file slots)
+offers_keep hw false (Some file) slots k = offered IsZero hw file slots k
 offers_keep hw false None slots k = k
 offers_keep hw true file slots k = k
 
@@ -200,7 +127,7 @@ commands_keep at (x ∷ cs) d =
 reboot_keeps : (t : ℕ) (d : DeviceState) → Keeps d (after_due_reboot t d)
 unfolding after_due_reboot
 reboot_keeps t d = device_by d _ _ _
-    (record { config = refl; slots = λ k. swapped d.config.hw d.slots k })
+    (record { config = refl; slots = λ k. swapped IsZero d.config.hw d.slots k })
     (same d d refl refl)
 
 message_keeps : (at : Arrival) (d : DeviceState) (cs : List Command) → Keeps d (message_delivery at d cs).device
@@ -254,7 +181,24 @@ take_by d (oldest ∷ others) = same d _ refl refl
 
 migration_keeps : (d : DeviceState) → Keeps d (after_migration d)
 unfolding after_migration
-migration_keeps d = record { config = refl; slots = λ k. raised d.config.hw d.slots k }
+migration_keeps d = record { config = refl; slots = λ k. raised IsZero d.config.hw d.slots k }
+
+power_keeps : (whole : CompleteFlags) (table : SessionTable) (d : DeviceState) → Keeps d (after_power whole table d)
+unfolding after_power
+power_keeps whole table d = record {
+  config = refl;
+  slots = λ k.
+      let hw : ℕ = d.config.hw in
+      let first = whole_file (view_of table.first) in
+      let second = whole_file (view_of table.second) in
+      let third = whole_file (view_of table.third) in
+      let one = slots_after hw whole.first first d.slots in
+      let two = slots_after hw whole.second second one in
+      let three = slots_after hw whole.third third two in
+      offers_keep hw whole.fourth (whole_file (view_of table.fourth)) three
+      (offers_keep hw whole.third third two
+      (offers_keep hw whole.second second one (offers_keep hw whole.first first d.slots k)));
+}
 
 call_keeps : (d : DeviceState) (call : Call) → Keeps d (after_call d call)
 call_keeps d (Delivers t word mark down) = delivery_keeps t word mark down d
@@ -262,6 +206,7 @@ call_keeps d (Airs t word mark bytes) = radio_keeps t word mark bytes d
 call_keeps d (Awakes t) = waking_keeps t d
 call_keeps d Takes = take_by d d.outbox
 call_keeps d Raises = migration_keeps d
+call_keeps d (Powers whole table) = power_keeps whole table d
 
 calls_keep : (d : DeviceState) (calls : List Call) → Keeps d (after_calls d calls)
 calls_keep d [] = same d d refl refl
@@ -284,8 +229,8 @@ events_keep d (event ∷ events) = keeps_on d _ _ (event_keeps d event) (events_
 
 -- ---- from the start
 
-first_sound : (config : Configuration) → IsSound config.hw (first_device config).slots
-first_sound config = record { runs = inl (refl, refl); read = inl refl }
+first_sound : (config : Configuration) → AreSound IsZero config.hw (first_device config).slots
+first_sound config = record { runs = inl (refl, refl); read = inl (refl, refl) }
 
 pub runs_images : RunsImagesAlone
 runs_images = record {

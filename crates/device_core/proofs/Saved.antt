@@ -1,6 +1,6 @@
 -- A saved device is read as the record that it was, its sessions aside.
 use Rattle.std.proofs.Common.{◌≡◌, ℕ, ◌+◌, ◌-◌, ◌*◌, ◌%◌, ◌^◌, ◌<◌, ◌≤◌, min, Bool, true, false, List, [], ◌∷◌, ◌++◌, length, get_or, drop, map, Option, Some, None, ◌⊎◌, inl, inr, refl, sym, ap, ◌∙◌, length-append, arith}
-use Rattle.std.specs.Prelude.{◌==◌, if◌then◌else◌, slice_range}
+use Rattle.std.specs.Prelude.{◌==◌, if◌then◌else◌, slice_range, IfSome}
 use Rattle.std.proofs.lemmas.Bool.{eqb-true}
 use Rattle.std.specs.List.{AllByRecursion, range_with_len}
 use Rattle.std.proofs.lemmas.List.{length-take, length-drop}
@@ -13,18 +13,21 @@ use Rattle.mc_group.specs.Groups.{group_at}
 use Rattle.image_slots.specs.declared.view.ImageState.{ImageState}
 use Rattle.image_slots.specs.declared.view.ImageState.TheVariants as image
 use Rattle.image_slots.specs.Image.{image_state}
-use Rattle.image_slots.specs.Slots.{Slots, first_slots}
+use Rattle.image_slots.specs.Slots.{Slots, RunsImage, first_slots}
+use Rattle.image_slots.proofs.Sound.{is_there}
 use Rattle.session_store.specs.declared.state.CompleteFlags.{CompleteFlags}
 use Rattle.device_core.specs.declared.class_session.ClassSession.{ClassSession}
+use Rattle.device_core.specs.declared.class_session.Kind.{Kind}
 use Rattle.device_core.specs.declared.class_session.Kind.TheVariants.{ClassC, ClassB}
+use Rattle.device_core.specs.DeviceInside.{KindFits, SessionFits}
 use Rattle.device_core.specs.Configuration.{Configuration}
-use Rattle.device_core.specs.declared.uplink.Uplink.{Uplink}
 use Rattle.device_core.specs.Device.{DeviceState, first_device}
 use Rattle.device_core.specs.SessionTable.{no_sessions}
 use Rattle.device_core.specs.Sendable.{IsUplink}
 use Rattle.device_core.specs.Saving.{clock_bytes, moment_bytes, groups_bytes, group_bytes, session_bytes, reboot_bytes, counts_bytes, next_byte, slots_bytes, flags_bytes, uplinks_bytes, config_bytes, state_bytes, saved_of, periodicity_of, IsBelow, GroupFits, IsSession, AreSlots, UplinkFits, IsOver, IsSaved}
 use Rattle.device_core.specs.SavingInside.{group_in, place_in, groups_in, session_fields_in, formats_in, running_in, slots_in, flags_in, uplink_at, told_of, CanTake}
 use Rattle.device_core.proofs.Lying.{Lies, lies_first, lies_rest, number_below}
+use Rattle.device_core.proofs.SavedUplinks.{spelled_all}
 use Rattle.device_core.proofs.SavedFields.{clock_back, moment_back, length-group_bytes, fits_at, groups_back, session_back, reboot_back, counts_back, SlotsLie, slots_back, flags_back, length-uplinks, uplinks_back}
 
 -- ---- where each part is
@@ -125,15 +128,6 @@ next_some image.Corrupt not = refl
 next_some image.Incompatible not = refl
 next_some (image.Valid version) not = refl
 
-state_there : (a b : Bool) (version : ℕ) → (if a then if b then image.Valid version else image.Incompatible else image.Corrupt) ≡ image.None → ⊥
-state_there true true version is = absurd cc
-state_there true false version is = absurd cc
-state_there false b version is = absurd cc
-
-image_there : (file : List ℕ) (hw formats : ℕ) → image_state file hw formats ≡ image.None → ⊥
-unfolding image_state
-image_there file hw formats is = state_there _ _ _ is
-
 two_or : (b : Bool) (formats : ℕ) → (formats == 2) ≡ b → (if b then 2 else formats) ≡ formats
 two_or true formats is = sym (eqb-true formats 2 is)
 two_or false formats is = refl
@@ -153,31 +147,32 @@ slots_told : (config : Configuration) (slots : Slots) (bytes : List ℕ) → Are
     → slots_in config.hw (first_slots config.formats) bytes slots.running slots.next_file ≡ slots
 slots_told config slots bytes are lie =
     let formats = formats_told config.formats slots bytes are.formats lie.formats in
-    elim are.next [
+    elim are.sound.read [
       | inl none ↦
           let zero_byte : get_or bytes 186 0 ≡ 0 = lie.next ∙ ap next_byte none.0 in
           rw zero_byte (slots_same slots _ _ _ _ formats lie.version (sym none.0) (sym none.1))
       | inr is ↦
           let some_byte : (get_or bytes 186 0 == 0) ≡ false =
           ap (λ (n : ℕ). n == 0) lie.next
-          ∙ next_some slots.next (λ none. image_there slots.next_file config.hw slots.formats (sym is ∙ none)) in
+          ∙ next_some slots.next (λ none. is_there slots.next_file config.hw slots.formats (sym is ∙ none)) in
           rw some_byte (slots_same slots _ _ _ _ formats lie.version
           (ap (λ (n : ℕ). image_state slots.next_file config.hw n) formats ∙ sym is) refl)
     ]
 
+-- what runs is the image that it was
+runs_told : (config : Configuration) (slots : Slots) (bytes : List ℕ) → AreSlots config slots → SlotsLie slots bytes
+    → RunsImage config.hw (running_in (first_slots config.formats) bytes slots.running)
+runs_told config slots bytes are lie = rw (formats_told config.formats slots bytes are.formats lie.formats, lie.version) are.sound.runs
+
 -- a file comes only where next is not none
 none_told : (config : Configuration) (slots : Slots) (bytes : List ℕ) → AreSlots config slots → SlotsLie slots bytes
     → get_or bytes 186 0 ≡ 0 → length slots.next_file ≡ 0
-none_told config slots bytes are lie is = elim are.next [
+none_told config slots bytes are lie is = elim are.sound.read [
   | inl none ↦ ap length none.1
-  | inr read ↦ absurd (image_there slots.next_file config.hw slots.formats (sym read ∙ next_none slots.next (sym lie.next ∙ is)))
+  | inr read ↦ absurd (is_there slots.next_file config.hw slots.formats (sym read ∙ next_none slots.next (sym lie.next ∙ is)))
 ]
 
 -- ---- all of it
-
-spelled_all : (uplinks : List Uplink) → AllByRecursion UplinkFits uplinks → AllByRecursion IsUplink uplinks
-spelled_all [] all = tt
-spelled_all (uplink ∷ uplinks) all = (all.0.spelled, spelled_all uplinks all.1)
 
 pub record IsReadBack (config : Configuration) (saved running next : List ℕ) (device : DeviceState) (flags : CompleteFlags) : Type 0 where
   pub fits : CanTake config saved running next
@@ -191,8 +186,9 @@ read_of config device flags bytes over parts =
     let uplinks = uplinks_back device.outbox bytes over.few over.uplinks parts.uplinks in
     record {
       fits = record {
-        runs = over.slots.running;
-        follows = over.slots.next_file;
+        runs = over.slots.room.running;
+        image = runs_told config device.slots bytes over.slots lie;
+        follows = over.slots.room.next_file;
         none = none_told config device.slots bytes over.slots lie;
         uplinks = rw uplinks (spelled_all device.outbox over.uplinks);
       };
@@ -215,6 +211,16 @@ pub read_back : (config : Configuration) (saved running next : List ℕ) (device
 read_back config saved running next device flags is =
     rw (← is.running_is, ← is.next_is, ← is.saved_is)
     (read_of config device flags (saved_of device flags) is.over (parts_saved config device flags is.over))
+
+-- ---- what a device keeps of its class session
+
+kind_is : (kind : Kind) → KindFits kind → periodicity_of kind < 8
+kind_is ClassC fits = omega arith
+kind_is (ClassB periodicity) fits = fits
+
+pub session_is : (session : Option ClassSession) → SessionFits session → IfSome session (λ s. s.time < 2 ^ 32) → IsSession session
+session_is None fits time = tt
+session_is (Some session) fits time = (fits.0, kind_is session.kind fits.2, time, fits.1)
 
 -- ---- what is read of any bytes whose files fit
 
@@ -278,16 +284,14 @@ slots_fit : (config : Configuration) (bytes running next : List ℕ) (b : Bool) 
 slots_fit config bytes running next true is all fits = record {
   formats = formats_fit (get_or bytes 181 0 == 2) config.formats;
   version = number_below bytes 182 4 all;
-  running = fits.runs;
-  next_file = omega arith;
-  next = inl (refl, refl);
+  sound = record { runs = fits.image; read = inl (refl, refl) };
+  room = record { running = fits.runs; next_file = omega arith };
 }
 slots_fit config bytes running next false is all fits = record {
   formats = formats_fit (get_or bytes 181 0 == 2) config.formats;
   version = number_below bytes 182 4 all;
-  running = fits.runs;
-  next_file = fits.follows;
-  next = inr refl;
+  sound = record { runs = fits.image; read = inr refl };
+  room = record { running = fits.runs; next_file = fits.follows };
 }
 
 pub over_told : (config : Configuration) (bytes running next : List ℕ) → (all : (k : ℕ) → get_or bytes k 0 < 256) → length bytes ≡ 492
@@ -301,7 +305,7 @@ over_told config bytes running next all long few fits = record {
   few_places = few;
   groups = λ id less. groups_fit bytes config.groups id all long few less;
   class_session = option_session (get_or bytes 135 0 == 0) (session_fields_in bytes 136)
-      (kind_fits (get_or bytes 137 0 == 0) (get_or bytes 138 0), number_below bytes 139 4 all, omega arith);
+      (omega arith, kind_fits (get_or bytes 137 0 == 0) (get_or bytes 138 0), number_below bytes 139 4 all, omega arith);
   reboot = option_below (get_or bytes 144 0 == 0) (2 ^ 32) (number_at bytes 145 4) (number_below bytes 145 4 all);
   counts = record {
     deaf = number_below bytes 149 8 all;

@@ -114,10 +114,11 @@ session_fields_back session bytes fits lies =
     let id = lies_head session.id _ bytes 136 lies in
     let kind = lies_head (kind_byte session.kind) _ bytes 137 after_id in
     let periodicity = lies_head (periodicity_of session.kind) _ bytes 138 after_kind in
-    let time = lies_number 4 session.time bytes 139 fits.1 (lies_first (number_bytes 4 session.time) (session.timeout ∷ []) bytes 139 numbers) in
+    let time = lies_number 4 session.time bytes 139 fits.2 (lies_first (number_bytes 4 session.time) (session.timeout ∷ []) bytes 139 numbers) in
     let timeout = lies_byte session.timeout bytes 143 (lies_rest (number_bytes 4 session.time) (session.timeout ∷ []) bytes 139 143 refl numbers) in
-    let low : session.timeout % 16 ≡ session.timeout = omega (arith, fits.2) in
-    rw (id, kind, periodicity, time, timeout, low, kind_back session.kind fits.0) refl
+    let few : session.id % 4 ≡ session.id = omega (arith, fits.0) in
+    let low : session.timeout % 16 ≡ session.timeout = omega (arith, fits.3) in
+    rw (id, few, kind, periodicity, time, timeout, low, kind_back session.kind fits.1) refl
 
 pub session_back : (session : Option ClassSession) (bytes : List ℕ) → IsSession session → Lies (session_bytes session) bytes 135 → session_in bytes ≡ session
 session_back session bytes fits lies =

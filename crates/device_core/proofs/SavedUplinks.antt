@@ -15,7 +15,7 @@ use Rattle.package_grammar.proofs.Written.{message_of}
 use Rattle.package_grammar.proofs.ReadingLaw.{read_as}
 use Rattle.device_core.specs.declared.uplink.Uplink.{Uplink}
 use Rattle.device_core.specs.Sendable.{IsUplink}
-use Rattle.device_core.specs.Saving.{uplink_bytes}
+use Rattle.device_core.specs.Saving.{uplink_bytes, UplinkFits}
 use Rattle.device_core.specs.SavingInside.{uplink_at}
 
 -- an uplink's payload is read as its one command
@@ -55,11 +55,15 @@ if_none None p = p
 if_none (Some x) p = tt
 
 -- one more
-pub spelled_more : (uplinks : List Uplink) (uplink : Uplink) → AllByRecursion IsUplink uplinks → IsUplink uplink → AllByRecursion IsUplink (uplinks ++ uplink ∷ [])
-spelled_more [] uplink all is = (is, tt)
-spelled_more (first ∷ uplinks) uplink all is = (all.0, spelled_more uplinks uplink all.1 is)
+pub fit_more : (uplinks : List Uplink) (uplink : Uplink) → AllByRecursion UplinkFits uplinks → UplinkFits uplink → AllByRecursion UplinkFits (uplinks ++ uplink ∷ [])
+fit_more [] uplink all is = (is, tt)
+fit_more (first ∷ uplinks) uplink all is = (all.0, fit_more uplinks uplink all.1 is)
 
 -- each of them
+pub spelled_all : (uplinks : List Uplink) → AllByRecursion UplinkFits uplinks → AllByRecursion IsUplink uplinks
+spelled_all [] all = tt
+spelled_all (uplink ∷ uplinks) all = (all.0.spelled, spelled_all uplinks all.1)
+
 spelled_at : (uplinks : List Uplink) (k : ℕ) (d : Uplink) → k < length uplinks → AllByRecursion IsUplink uplinks → IsUplink (get_or uplinks k d)
 spelled_at [] k d less all = absurd (omega (arith, less))
 spelled_at (uplink ∷ uplinks) zero d less all = all.0

@@ -29,8 +29,7 @@ use Rattle.mc_group.specs.declared.group.Group.{Group}
 use Rattle.mc_group.specs.Groups.{max_groups, group_at}
 use Rattle.image_slots.specs.declared.view.ImageState.{ImageState}
 use Rattle.image_slots.specs.declared.view.ImageState.TheVariants as image
-use Rattle.image_slots.specs.Image.{image_state}
-use Rattle.image_slots.specs.Slots.{Slots}
+use Rattle.image_slots.specs.Slots.{Slots, AreSound, HaveRoom}
 use Rattle.session_store.specs.declared.state.CompleteFlags.{CompleteFlags}
 use Rattle.device_core.specs.declared.class_session.ClassSession.{ClassSession}
 use Rattle.device_core.specs.declared.class_session.Kind.{Kind}
@@ -163,7 +162,8 @@ GroupFits (Some group) = (group.addr < 2 ^ 32) × (length group.key ≡ 16) × (
 -- the fields of a class session are within their bits
 abbrev pub IsSession : Option ClassSession → Type 0
 IsSession None = Unit {0}
-IsSession (Some session) = (periodicity_of session.kind < 8) × (session.time < 2 ^ 32) × (session.timeout < 16)
+IsSession (Some session) =
+    (session.id < max_groups) × (periodicity_of session.kind < 8) × (session.time < 2 ^ 32) × (session.timeout < 16)
 
 pub record CountsFit (counts : Counts) : Type 0 where
   pub deaf : counts.deaf < 2 ^ 64
@@ -171,14 +171,13 @@ pub record CountsFit (counts : Counts) : Type 0 where
   pub full : counts.full < 2 ^ 64
   pub dropped : counts.dropped < 2 ^ 64
 
--- both files have room; the formats are those of the configuration, or both; next is none, or what its bytes are
+-- the formats are those of the configuration, or both; what runs is an image, next is none, or what its bytes are, and both
+-- files have room
 pub record AreSlots (config : Configuration) (slots : Slots) : Type 0 where
   pub formats : (slots.formats ≡ config.formats) ⊎ (slots.formats ≡ 2)
   pub version : slots.version < 2 ^ 32
-  pub running : length slots.running ≤ config.area
-  pub next_file : length slots.next_file ≤ config.area
-  pub next : ((slots.next ≡ image.None) × (slots.next_file ≡ []))
-      ⊎ (slots.next ≡ image_state slots.next_file config.hw slots.formats)
+  pub sound : AreSound (λ version. Unit {0}) config.hw slots
+  pub room : HaveRoom config.area slots
 
 -- an uplink is a command of the device's, and its moment of 8 bytes
 pub record UplinkFits (uplink : Uplink) : Type 0 where

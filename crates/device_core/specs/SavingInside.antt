@@ -1,11 +1,12 @@
 -- The fields of a saved device, read from any bytes.
-use Rattle.std.specs.Prelude.{◌≡◌, ℕ, ◌+◌, ◌*◌, ◌%◌, ◌≤◌, min, Bool, true, false, not, ◌==◌, if◌then◌else◌, List, length, map, slice_index, slice_range, Option, Some, None}
+use Rattle.std.specs.Prelude.{◌≡◌, ◌⊎◌, ℕ, ◌+◌, ◌*◌, ◌%◌, ◌≤◌, min, Bool, true, false, not, ◌==◌, if◌then◌else◌, List, length, map, slice_index, slice_range, Option, Some, None}
 use Rattle.std.specs.List.{range_with_len, AllByRecursion}
 use Rattle.wire_base.specs.Numbers.{number_at}
 use Rattle.clock_sync.specs.Clock.{Clock}
 use Rattle.mc_group.specs.declared.group.Group.{Group}
+use Rattle.image_slots.specs.HeldSlots.{HeldSlots}
 use Rattle.image_slots.specs.Image.{image_state}
-use Rattle.image_slots.specs.Slots.{Slots}
+use Rattle.image_slots.specs.Slots.{Slots, RunsImage, first_slots}
 use Rattle.session_store.specs.declared.flash_sessions.IdleSessions.{IdleSessions}
 use Rattle.session_store.specs.declared.state.CompleteFlags.{CompleteFlags}
 use Rattle.session_store.specs.declared.state.State.TheVariants.{Down}
@@ -59,7 +60,7 @@ kind_of byte periodicity = if byte == 0 then ClassC else ClassB (periodicity % 8
 
 abbrev pub session_fields_in : List ℕ → (at : ℕ) → ClassSession
 session_fields_in bytes at = record {
-  id = slice_index bytes at;
+  id = slice_index bytes at % 4;
   kind = kind_of (slice_index bytes (at + 1)) (slice_index bytes (at + 2));
   time = number_at bytes (at + 3) 4;
   timeout = slice_index bytes (at + 7) % 16;
@@ -122,6 +123,12 @@ uplinks_in bytes = map (λ k. uplink_at bytes (204 + 32 * k)) (range_with_len 0 
 
 -- ---- all of it
 
+-- slots that were changed as restoring does, or in part
+pub record AreStill (old new : HeldSlots) : Type 0 where
+  pub hw : new.hw ≡ old.hw
+  pub area : new.area ≡ old.area
+  pub formats : (new.slots.formats ≡ old.slots.formats) ⊎ (new.slots.formats ≡ 2)
+
 -- the device with these fields
 abbrev pub told_of : DeviceState → (bytes running next : List ℕ) → DeviceState
 told_of device bytes running next = record device {
@@ -135,9 +142,10 @@ told_of device bytes running next = record device {
   counts = counts_in bytes;
 }
 
--- the files have room, a next that is none has no bytes, and the uplinks are some of a device's
+-- the files have room, what runs is an image, a next that is none has no bytes, and the uplinks are some of a device's
 pub record CanTake (config : Configuration) (bytes running next : List ℕ) : Type 0 where
   pub runs : length running ≤ config.area
+  pub image : RunsImage config.hw (running_in (first_slots config.formats) bytes running)
   pub follows : length next ≤ config.area
   pub none : slice_index bytes 186 ≡ 0 → length next ≡ 0
   pub uplinks : AllByRecursion IsUplink (uplinks_in bytes)

@@ -81,7 +81,8 @@ impl<F: Flash + Drop> Model for Device<F> {
     } };
 
     ghost invariant = { λ d.
-        IsDevice (configured (size_with d.size) d.config) d.sessions d.slots d.class_session };
+        IsDevice (configured (size_with d.size) d.config) d.groups d.class_session d.sessions
+        d.slots };
 }
 
 impl<F: Flash + Drop> Device<F> {
@@ -272,7 +273,7 @@ impl<F: Flash + Drop> Device<F> {
     }
 
     /// Makes both image formats known from now on, and reads what was received to run next again. No reboot is carried out.
-    #[tactic(auto, unfolding(crate::specs::Firmware::after_migration))]
+    #[tactic(auto, using(crate::proofs::SavedSlots::raise_knows_both), unfolding(crate::specs::Firmware::after_migration))]
     pub fn raise(&mut self)
         ensures becomes { Becomes self.old self.new after_migration }
         ensures aside { GoesAside self.old self.new after_migration }
@@ -353,7 +354,8 @@ impl<F: Flash + Drop> Device<F> {
         self.sessions.view(index)
     }
 
-    /// Returns what it runs, and what was received to run next.
+    /// Returns what it runs, and what was received to run next. Whatever came, it runs an image file for its hardware, or what it
+    /// came with, without a file.
     pub fn slots(&self) -> &Slots
         ensures { result.now.slots ≡ self.now.slots }
     {

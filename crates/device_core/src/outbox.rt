@@ -5,7 +5,7 @@ ghost use Rattle.std.specs.List.{flat_map, AllByRecursion};
 ghost use Rattle.device_core.specs.Answers.{uplink_of};
 ghost use Rattle.device_core.specs.Device.{outbox_size};
 ghost use Rattle.device_core.specs.HeldDevice.{TakesOldest};
-ghost use Rattle.device_core.specs.Saving.{uplink_bytes, uplinks_bytes};
+ghost use Rattle.device_core.specs.Saving.{uplink_bytes, uplinks_bytes, UplinkFits};
 ghost use Rattle.device_core.specs.SavingInside.{uplink_at, uplinks_in};
 ghost use Rattle.device_core.specs.Sendable.{IsSendable, IsUplink};
 
@@ -99,6 +99,8 @@ impl Outbox {
         requires { length to.old.items ≤ 203 }
         ensures bytes { to.new.items ≡ to.old.items ++ uplinks_bytes self.now }
         ensures size { length to.new.items ≡ length to.old.items + 257 }
+        ensures few { length self.now ≤ outbox_size }
+        ensures fit { AllByRecursion UplinkFits self.now }
     {
         put(to, &[self.uplinks.len() as u8]);
         put_all(to, self.uplinks.as_slice());
@@ -143,7 +145,7 @@ impl Outbox {
 fn uplink_at(saved: &[u8], at: u16) -> Option<QueuedUplink>
     requires { at + 32 ≤ length saved.now }
     ensures uplink { IfSome result (λ u. u ≡ uplink_at saved.now at) }
-    ensures spelled { IfSome result (λ u. IsUplink u) }
+    ensures spelled { IfSome result (λ u. UplinkFits u) }
     ensures none { IfNone result (IsUplink (uplink_at saved.now at) → ⊥) }
 {
     let due = u64_at(saved, at);

@@ -2,7 +2,7 @@
 
 ghost use Rattle.std.specs.Prelude.{◌≡◌, ◌+◌, ◌≤◌, ◌++◌, [], length, IfSome, IfNone};
 ghost use Rattle.device_core.specs.Answers.{uplink_of};
-ghost use Rattle.device_core.specs.Saving.{uplink_bytes};
+ghost use Rattle.device_core.specs.Saving.{uplink_bytes, UplinkFits};
 ghost use Rattle.device_core.specs.Sendable.{IsSendable, IsUplink};
 
 use crate::saving::{SavedDevice, put, put_u64, put_zeros};
@@ -47,7 +47,8 @@ impl QueuedUplink {
     #[tactic(auto, using(crate::proofs::Lengths::short))]
     pub fn of(answer: Answer<'_>) -> Self
         requires { IsSendable answer.port answer.command }
-        ensures { result ≡ uplink_of answer.entry }
+        ensures uplink { result ≡ uplink_of answer.entry }
+        ensures fits { UplinkFits result }
     {
         // (written in place, so that no payload is moved)
         let mut payload = Payload::new();
@@ -65,7 +66,7 @@ impl QueuedUplink {
     pub fn read(due: u64, port: u8, payload: &[u8]) -> Option<Self>
         ensures uplink { IfSome result
             (λ u. u ≡ record { due = due; port = port; payload = payload.now }) }
-        ensures spelled { IfSome result (λ u. IsUplink u) }
+        ensures spelled { IfSome result (λ u. UplinkFits u) }
         ensures none { IfNone result
             (IsUplink (record { due = due; port = port; payload = payload.now }) → ⊥) }
     {

@@ -1,8 +1,9 @@
 //! The fields of a saved device, read from any bytes.
 
-ghost use Rattle.std.specs.Prelude.{◌≡◌, ◌+◌, ◌<◌, ◌≤◌, length, slice_range};
+ghost use Rattle.std.specs.Prelude.{◌≡◌, ◌↔◌, ◌+◌, ◌<◌, ◌≤◌, true, length, slice_range, IsTrue};
 ghost use Rattle.wire_base.specs.Numbers.{number_at};
-ghost use Rattle.device_core.specs.SavingInside.{clock_in, moment_in, group_in, place_in, kind_of, session_in, reboot_in, counts_in, flags_in, formats_of, slots_in};
+ghost use Rattle.image_slots.specs.Slots.{RunsImage};
+ghost use Rattle.device_core.specs.SavingInside.{clock_in, moment_in, group_in, place_in, kind_of, session_in, reboot_in, counts_in, flags_in, formats_of, running_in, slots_in, AreStill};
 
 use crate::class_session::{ClassSession, Kind};
 use crate::counts::Counts;
@@ -79,7 +80,7 @@ pub(crate) fn session_in(saved: &[u8]) -> Option<ClassSession>
         return None;
     }
     Some(ClassSession {
-        id: saved[136],
+        id: saved[136] % 4,
         kind: kind_of(saved[137], saved[138]),
         time: u32_at(saved, 139),
         timeout: saved[143] % 16,
@@ -146,22 +147,28 @@ fn take_formats(slots: &mut Slots, byte: u8)
     }
 }
 
-/// Puts what runs, and next, into slots that are empty.
+/// Puts what runs, and next, into slots that are empty; false exactly where what runs is no image of the version that is told.
 #[tactic(auto, unfolding(image_slots::specs::Slots::after_offer))]
-pub(crate) fn take_slots(slots: &mut Slots, saved: &[u8], running: &[u8], next: &[u8])
+pub(crate) fn take_slots(slots: &mut Slots, saved: &[u8], running: &[u8], next: &[u8]) -> bool
     requires long { 460 ≤ length saved.now }
     requires runs { length running.now ≤ slots.old.area }
     requires fits { length next.now ≤ slots.old.area }
     requires none { slots.old.slots.next ≡ ImageState.None }
-    ensures { slots.new ≡ record slots.old {
+    ensures answer { IsTrue result
+        ↔ RunsImage slots.old.hw (running_in slots.old.slots saved.now running.now) }
+    ensures still { AreStill slots.old slots.new }
+    ensures slots { result ≡ true → slots.new ≡ record slots.old {
       slots = slots_in slots.old.hw slots.old.slots saved.now running.now next.now;
     } }
 {
     take_formats(slots, saved[181]);
-    slots.run(u32_at(saved, 182), running);
+    if !slots.resume(u32_at(saved, 182), running) {
+        return false;
+    }
     if saved[NEXT] != 0 {
         slots.offer(next);
     }
+    true
 }
 
 /// The number of eight bytes at a place, the lowest first.

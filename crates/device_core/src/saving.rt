@@ -1,9 +1,11 @@
 //! What a device knows, as bytes. Its configuration, its files and its sessions are not among them.
 
-ghost use Rattle.std.specs.Prelude.{◌≡◌, ◌+◌, ◌≤◌, ◌++◌, length, replicate};
+ghost use Rattle.std.specs.Prelude.{◌≡◌, ℕ, ◌+◌, ◌^◌, ◌<◌, ◌≤◌, ◌++◌, length, replicate, IfSome};
 ghost use Rattle.sha2.specs.Sha256.{sha256};
 ghost use Rattle.wire_base.specs.Numbers.{number_bytes};
-ghost use Rattle.device_core.specs.Saving.{option_bytes, flag_byte, clock_bytes, moment_bytes, group_bytes, groups_bytes, kind_byte, periodicity_of, session_bytes, reboot_bytes, counts_bytes, next_byte, next_version, slots_bytes, flags_bytes, class_byte, root_byte, config_bytes};
+ghost use Rattle.device_core.specs.Saving.{option_bytes, flag_byte, clock_bytes, moment_bytes, group_bytes, groups_bytes, kind_byte, periodicity_of, session_bytes, reboot_bytes, counts_bytes, next_byte, next_version, slots_bytes, flags_bytes, class_byte, root_byte, config_bytes, IsBelow, GroupFits, CountsFit};
+ghost use Rattle.mc_group.specs.Groups.{group_at};
+ghost use Rattle.image_slots.specs.Slots.{AreSound, HaveRoom};
 ghost use Rattle.session_store.specs.Size.{Size};
 ghost use Rattle.device_core.specs.Configuration.{configured};
 ghost use Rattle.device_core.specs.SavingInside.{restore_error};
@@ -57,7 +59,9 @@ pub(crate) fn restore_error(error: ReserveError) -> RestoreError
 
 pub(crate) fn put_clock(to: &mut SavedDevice, clock: &DeviceClock)
     requires { length to.old.items ≡ 0 }
-    ensures { to.new.items ≡ clock_bytes clock.now }
+    ensures bytes { to.new.items ≡ clock_bytes clock.now }
+    ensures offset { clock.now.offset < 2 ^ 32 }
+    ensures token { clock.now.token < 16 }
 {
     put(to, b"FUSD");
     put(to, &[1]);
@@ -69,6 +73,7 @@ pub(crate) fn put_moment(to: &mut SavedDevice, last_due: Option<u64>)
     requires { length to.old.items ≤ 400 }
     ensures bytes { to.new.items ≡ to.old.items ++ moment_bytes last_due }
     ensures size { length to.new.items ≡ length to.old.items + 9 }
+    ensures fits { IsBelow (2 ^ 64) last_due }
 {
     match last_due {
         Some(due) => {
@@ -80,9 +85,11 @@ pub(crate) fn put_moment(to: &mut SavedDevice, last_due: Option<u64>)
 }
 
 pub(crate) fn put_groups(to: &mut SavedDevice, groups: &GroupTable)
-    requires { length to.old.items ≤ 340 }
+    requires room { length to.old.items ≤ 340 }
+    requires few { length groups.now ≤ 4 }
     ensures bytes { to.new.items ≡ to.old.items ++ groups_bytes groups.now }
     ensures size { length to.new.items ≡ length to.old.items + 116 }
+    ensures fit { (id : ℕ) → id < length groups.now → GroupFits (group_at groups.now id) }
 {
     put_group(to, groups.get(0));
     put_group(to, groups.get(1));
@@ -94,6 +101,7 @@ fn put_group(to: &mut SavedDevice, group: Option<Group>)
     requires { length to.old.items ≤ 460 }
     ensures bytes { to.new.items ≡ to.old.items ++ group_bytes group }
     ensures size { length to.new.items ≡ length to.old.items + 29 }
+    ensures fits { GroupFits group }
 {
     match group {
         Some(group) => {
@@ -111,6 +119,7 @@ pub(crate) fn put_session(to: &mut SavedDevice, session: Option<ClassSession>)
     requires { length to.old.items ≤ 400 }
     ensures bytes { to.new.items ≡ to.old.items ++ session_bytes session }
     ensures size { length to.new.items ≡ length to.old.items + 9 }
+    ensures time { IfSome session (λ s. s.time < 2 ^ 32) }
 {
     match session {
         Some(session) => {
@@ -152,6 +161,7 @@ pub(crate) fn put_reboot(to: &mut SavedDevice, reboot: Option<u32>)
     requires { length to.old.items ≤ 400 }
     ensures bytes { to.new.items ≡ to.old.items ++ reboot_bytes reboot }
     ensures size { length to.new.items ≡ length to.old.items + 5 }
+    ensures fits { IsBelow (2 ^ 32) reboot }
 {
     put_moment32(to, reboot)
 }
@@ -161,6 +171,7 @@ fn put_moment32<const N: usize>(to: &mut ArrayVec<u8, N>, value: Option<u32>)
     requires { length to.old.items + 5 ≤ N }
     ensures bytes { to.new.items ≡ to.old.items ++ option_bytes 4 (λ n. number_bytes 4 n) value }
     ensures size { length to.new.items ≡ length to.old.items + 5 }
+    ensures fits { IsBelow (2 ^ 32) value }
 {
     match value {
         Some(n) => {
@@ -175,6 +186,7 @@ pub(crate) fn put_counts(to: &mut SavedDevice, counts: Counts)
     requires { length to.old.items ≤ 400 }
     ensures bytes { to.new.items ≡ to.old.items ++ counts_bytes counts }
     ensures size { length to.new.items ≡ length to.old.items + 32 }
+    ensures fit { CountsFit counts }
 {
     put_u64(to, counts.deaf);
     put_u64(to, counts.refused);
@@ -186,6 +198,9 @@ pub(crate) fn put_slots(to: &mut SavedDevice, slots: &Slots)
     requires { length to.old.items ≤ 400 }
     ensures bytes { to.new.items ≡ to.old.items ++ slots_bytes slots.now.slots }
     ensures size { length to.new.items ≡ length to.old.items + 18 }
+    ensures version { slots.now.slots.version < 2 ^ 32 }
+    ensures sound { AreSound (λ version. Unit {0}) slots.now.hw slots.now.slots }
+    ensures room { HaveRoom slots.now.area slots.now.slots }
 {
     let (version, running) = slots.running();
     put(to, &[slots.formats()]);

@@ -1,3 +1,3 @@
 pub mod ImageLemmas
-mod Formats
+pub mod Sound
 pub mod WorkedImages

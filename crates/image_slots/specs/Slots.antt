@@ -1,5 +1,5 @@
 -- The two image slots of a device: what runs, and what was received to run next (this project's profile).
-use Rattle.std.specs.Prelude.{◌≡◌, ◌⊎◌, ℕ, ◌==◌, if◌then◌else◌, List, []}
+use Rattle.std.specs.Prelude.{◌≡◌, ◌⊎◌, ℕ, ◌≤◌, ◌==◌, if◌then◌else◌, List, [], length}
 use Rattle.image_slots.specs.declared.view.ImageState.{ImageState}
 use Rattle.image_slots.specs.declared.view.ImageState.TheVariants.{None as Empty, Valid}
 use Rattle.image_slots.specs.Image.{image_state}
@@ -21,17 +21,21 @@ first_slots formats = record { formats = formats; version = 0; running = []; nex
 abbrev pub without_next : Slots → Slots
 without_next slots = record slots { next = Empty; next_file = [] }
 
+-- a file runs from now on, with this version
+abbrev pub with_running : (version : ℕ) → (file : List ℕ) → Slots → Slots
+with_running version file slots = record slots { version = version; running = file }
+
 -- a whole file becomes next, whatever next was
 unfoldable pub after_offer : (hw : ℕ) → List ℕ → Slots → Slots
 after_offer hw file slots = record slots { next = image_state file hw slots.formats; next_file = file }
 
 -- a valid next becomes what runs, and any other stays
 unfoldable pub after_swap : Slots → Slots
-after_swap slots = with_running slots slots.next
+after_swap slots = swapped slots slots.next
   where
-    with_running : Slots → ImageState → Slots
-    with_running slots (Valid version) = without_next (record slots { version = version; running = slots.next_file })
-    with_running slots other = slots
+    swapped : Slots → ImageState → Slots
+    swapped slots (Valid version) = without_next (with_running version slots.next_file slots)
+    swapped slots other = slots
 
 -- the answer to the request to delete a version: bit 0 without a valid next, bit 1 where it has another version
 abbrev pub delete_bits : ImageState → (version : ℕ) → ℕ
@@ -42,14 +46,38 @@ delete_bits other version = 1
 unfoldable pub after_delete : (version : ℕ) → Slots → Slots
 after_delete version slots = if delete_bits slots.next version == 0 then without_next slots else slots
 
--- both formats are known from now on: a next that is not none is what its bytes are then
+-- what next is where both formats are known: none, or what its bytes are then
+abbrev pub read_again : (hw : ℕ) → ImageState → List ℕ → ImageState
+read_again hw Empty file = Empty
+read_again hw other file = image_state file hw 2
+
+-- both formats are known from now on
 unfoldable pub after_raise : (hw : ℕ) → Slots → Slots
 after_raise hw slots = record slots { formats = 2; next = read_again hw slots.next slots.next_file }
-  where
-    read_again : (hw : ℕ) → ImageState → List ℕ → ImageState
-    read_again hw Empty file = Empty
-    read_again hw other file = image_state file hw 2
 
--- next is none, or what its bytes are
+-- ---- what is true of them
+
+-- what runs is an image file for this hardware, of a format that is known, with its version; or no file is there, and of its
+-- version this is true
+abbrev pub RunsImageOr : (IsFirst : (version : ℕ) → Type 0) → (hw : ℕ) → Slots → Type 0
+RunsImageOr IsFirst hw slots =
+    ((slots.running ≡ []) × IsFirst slots.version) ⊎ (image_state slots.running hw slots.formats ≡ Valid slots.version)
+
+-- where no file is there, it has any version: what runs came with the device
+abbrev pub RunsImage : (hw : ℕ) → Slots → Type 0
+RunsImage hw slots = RunsImageOr (λ version. Unit {0}) hw slots
+
+-- next is none, and has no bytes, or what its bytes are
 abbrev pub IsRead : (hw : ℕ) → Slots → Type 0
-IsRead hw slots = (slots.next ≡ Empty) ⊎ (slots.next ≡ image_state slots.next_file hw slots.formats)
+IsRead hw slots =
+    ((slots.next ≡ Empty) × (slots.next_file ≡ [])) ⊎ (slots.next ≡ image_state slots.next_file hw slots.formats)
+
+-- what each slot says of its file is true
+pub record AreSound (IsFirst : (version : ℕ) → Type 0) (hw : ℕ) (slots : Slots) : Type 0 where
+  pub runs : RunsImageOr IsFirst hw slots
+  pub read : IsRead hw slots
+
+-- each file has room
+pub record HaveRoom (area : ℕ) (slots : Slots) : Type 0 where
+  pub running : length slots.running ≤ area
+  pub next_file : length slots.next_file ≤ area

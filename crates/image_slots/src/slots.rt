@@ -1,7 +1,7 @@
 //! The two image slots of a device.
 
-ghost use Rattle.std.specs.Prelude.{◌≡◌, ◌≤◌, ℕ, length, IfOk, vec_capacity};
-ghost use Rattle.image_slots.specs.Slots.{first_slots, without_next, after_offer, after_swap, delete_bits, after_delete, after_raise};
+ghost use Rattle.std.specs.Prelude.{◌≡◌, ◌↔◌, ◌≤◌, ℕ, length, true, false, IsTrue, IfOk, vec_capacity};
+ghost use Rattle.image_slots.specs.Slots.{RunsImage, AreSound, HaveRoom, first_slots, without_next, with_running, after_offer, after_swap, delete_bits, after_delete, read_again, after_raise};
 
 use crate::view::{ImageState, ImageView};
 use std::alloc::Global;
@@ -32,7 +32,7 @@ pub struct Slots {
 impl Model for Slots {
     ghost use Rattle.std.specs.Prelude.{◌≤◌, vec_capacity};
     ghost use Rattle.image_slots.specs.HeldSlots.{HeldSlots};
-    ghost use Rattle.image_slots.specs.Slots.{IsRead};
+    ghost use Rattle.image_slots.specs.Slots.{AreSound, HaveRoom};
 
     ghost Value = { HeldSlots };
 
@@ -43,7 +43,8 @@ impl Model for Slots {
     } };
 
     ghost invariant = { λ s. (s.area ≤ vec_capacity s.running) × (s.area ≤ vec_capacity s.next_file)
-        × IsRead s.hw (record { formats = s.formats; version = s.version; running = s.running.items; next = s.next; next_file = s.next_file.items }) };
+        × AreSound (λ version. Unit {0}) s.hw (record { formats = s.formats; version = s.version; running = s.running.items; next = s.next; next_file = s.next_file.items })
+        × HaveRoom s.area (record { formats = s.formats; version = s.version; running = s.running.items; next = s.next; next_file = s.next_file.items }) };
 }
 
 impl Slots {
@@ -81,15 +82,25 @@ impl Slots {
         put_file(&mut self.next_file, file);
     }
 
-    /// Makes a file of at most `area` bytes what runs from now on, with this version; next stays.
-    pub fn run(&mut self, version: u32, file: &[u8])
+    /// Makes a file of at most `area` bytes what runs from now on, with this version; next stays. False, with nothing changed,
+    /// exactly where it is neither empty, as of a firmware that came with the device, nor an image file for this hardware, of a
+    /// format that is known, with this version.
+    pub fn resume(&mut self, version: u32, file: &[u8]) -> bool
         requires { length file.now ≤ self.old.area }
-        ensures { self.new ≡ record self.old {
-          slots = record self.old.slots { version = version; running = file.now };
-        } }
+        ensures answer { IsTrue result
+            ↔ RunsImage self.old.hw (with_running version file.now self.old.slots) }
+        ensures runs { result ≡ true
+            → self.new ≡ record self.old { slots = with_running version file.now self.old.slots } }
+        ensures stays { result ≡ false → self.new ≡ self.old }
     {
+        if !file.is_empty()
+            && ImageView::read(file, self.hw, self.formats) != ImageState::Valid(version)
+        {
+            return false;
+        }
         self.version = version;
         put_file(&mut self.running, file);
+        true
     }
 
     /// Makes a valid next what runs, and next none; any other next stays.
@@ -128,9 +139,7 @@ impl Slots {
         ensures valid { (version : ℕ) → self.old.slots.next ≡ ImageState.Valid version
             → self.new.slots.next ≡ ImageState.Valid version }
     {
-        if self.next != ImageState::None {
-            self.next = ImageView::read(&self.next_file, self.hw, 2);
-        }
+        self.next = read_again(self.next, &self.next_file, self.hw);
         self.formats = 2;
     }
 
@@ -138,6 +147,8 @@ impl Slots {
     pub fn running(&self) -> (u32, &[u8])
         ensures version { result.0 ≡ self.now.slots.version }
         ensures file { result.1.now ≡ self.now.slots.running }
+        ensures sound { AreSound (λ version. Unit {0}) self.now.hw self.now.slots }
+        ensures room { HaveRoom self.now.area self.now.slots }
     {
         (self.version, self.running.as_slice())
     }
@@ -181,6 +192,16 @@ fn put_file(slot: &mut Vec<u8>, file: &[u8])
     slot.clear();
     if slot.extend_from_slice(file).is_err() {
         unreachable!();
+    }
+}
+
+/// What next is where both formats are known.
+fn read_again(next: ImageState, file: &[u8], hw: u32) -> ImageState
+    ensures { result ≡ read_again hw next file.now }
+{
+    match next {
+        ImageState::None => ImageState::None,
+        _ => ImageView::read(file, hw, 2),
     }
 }
 

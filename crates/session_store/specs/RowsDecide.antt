@@ -8,6 +8,7 @@ use Rattle.session_store.specs.Size.{Size, SizedLayout, store_room, any_file, si
 abbrev pub bits_of : SizedLayout → Size → (held : Bool) → SetupReq → ℕ
 bits_of layout size held req = setup_bits layout.limits (store_room (record layout { size = size }) held) req
 
+-- the least size for the rows of any file refuses nothing that the largest takes, and which size that is
 pub record RowsDecide : Type 0 where
   -- sessions of the least size for the rows that are kept refuse what those of the largest do
   pub alike : (layout : SizedLayout) (held : Bool) (req : SetupReq) → layout.limits.rows ≤ 256

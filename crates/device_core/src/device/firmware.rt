@@ -38,6 +38,7 @@ impl<F: Flash + Drop> Device<F> {
     }
 
     /// DevDeleteImageReq.
+    #[tactic(auto, using(crate::proofs::SavedSlots::delete_keeps_formats))]
     pub(super) fn delete_image(&mut self, here: Arrival, version: u32)
         requires port { here.port ≡ 203 }
         requires room { length self.old.outbox < 8 }
@@ -81,6 +82,7 @@ impl<F: Flash + Drop> Device<F> {
     }
 
     /// Carries out a reboot.
+    #[tactic(auto, using(crate::proofs::SavedSlots::swap_keeps_formats))]
     fn reboot_now(&mut self)
         ensures { self.new
             ≡ record self.old { reboot = None; slots = after_swap self.old.slots } }

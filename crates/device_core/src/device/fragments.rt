@@ -123,7 +123,7 @@ pub(super) fn is_whole<F: Flash + Drop>(sessions: &SessionStore<F>, index: u8) -
 }
 
 /// Offers to next the file of a session that was not whole before and is whole now.
-#[tactic(auto, unfolding(frag_session::specs::HeldView::seen))]
+#[tactic(auto, unfolding(frag_session::specs::HeldView::seen, image_slots::specs::Slots::after_offer))]
 pub(super) fn offer<F: Flash + Drop>(
     slots: &mut Slots,
     sessions: &SessionStore<F>,
@@ -134,6 +134,7 @@ pub(super) fn offer<F: Flash + Drop>(
     requires area { sessions.now.layout.area ≤ slots.old.area }
     ensures hw { slots.new.hw ≡ slots.old.hw }
     ensures area { slots.new.area ≡ slots.old.area }
+    ensures formats { slots.new.slots.formats ≡ slots.old.slots.formats }
     ensures offers { (table : SessionTable) → StateStands sessions.now.state table
         → let file = whole_file (view_of (session_at table index)) in
         slots.new ≡ record slots.old {

@@ -2,7 +2,7 @@
 
 ghost use Rattle.std.specs.Prelude.{◌≡◌, ◌↔◌, ◌≤◌, length, IsTrue};
 ghost use Rattle.image_slots.specs.declared.view.ImageState.{ImageState};
-ghost use Rattle.device_core.specs.Saving.{saved_of};
+ghost use Rattle.device_core.specs.Saving.{saved_of, IsOver};
 ghost use Rattle.device_core.specs.SavingInside.{groups_in};
 ghost use Rattle.device_core.specs.SessionTable.{SessionTable};
 
@@ -33,7 +33,10 @@ impl<F: Flash + Drop> Device<F> {
     /// Returns what it knows as bytes that `restore` takes again, besides the files that its slots hold: to be stored before the
     /// device ends. They hold the keys of its groups, and neither its own key nor its sessions. It takes no memory.
     pub fn save(&self) -> SavedDevice
-        ensures { Saves self.now result.items }
+        ensures bytes { Saves self.now result.items }
+        // Whatever came before, `restore` takes them: it is `Corrupt` exactly where no such record has the bytes.
+        ensures restorable { (table : SessionTable)
+            → IsOver self.now.config (device_of self.now table) }
     {
         self.saved_with(self.sessions.flags())
     }
@@ -94,9 +97,8 @@ impl<F: Flash + Drop> Device<F> {
     /// that no caller has their room on its stack beside that of `reserve_sized`.
     #[inline(never)]
     pub fn resume(&mut self, saved: &[u8], running: &[u8], next: &[u8]) -> bool
-        requires few { self.old.config.groups ≤ 4 }
-        requires places { length self.old.groups ≡ self.old.config.groups }
         requires none { self.old.slots.next ≡ ImageState.None }
+        requires formats { self.old.slots.formats ≡ self.old.config.formats }
         ensures { (config : Configuration) (flash : _) → Starts config flash self.old
             → Resumes config flash saved.now running.now next.now self.new result }
     {
@@ -121,7 +123,9 @@ impl<F: Flash + Drop> Device<F> {
     #[inline(never)]
     #[tactic(auto, unfolding(crate::specs::Saving::saved_of, crate::specs::Saving::state_bytes))]
     fn saved_with(&self, flags: CompleteFlags) -> SavedDevice
-        ensures { (table : SessionTable) → result.items ≡ saved_of (device_of self.now table) flags }
+        ensures bytes { (table : SessionTable)
+            → result.items ≡ saved_of (device_of self.now table) flags }
+        ensures over { (table : SessionTable) → IsOver self.now.config (device_of self.now table) }
     {
         let mut saved = SavedDevice::new();
         put_clock(&mut saved, &self.clock);
@@ -144,12 +148,11 @@ impl<F: Flash + Drop> Device<F> {
     }
 
     /// Takes the fields of bytes that may not be a device's, and the files; false exactly where a file has no room, there is a
-    /// file without a next, or an uplink is none.
+    /// file without a next, what runs is no image of the version that is told, or an uplink is none.
     fn take_saved(&mut self, saved: &[u8], running: &[u8], next: &[u8]) -> bool
         requires long { length saved.now ≡ 492 }
-        requires few { self.old.config.groups ≤ 4 }
-        requires places { length self.old.groups ≡ self.old.config.groups }
         requires none { self.old.slots.next ≡ ImageState.None }
+        requires formats { self.old.slots.formats ≡ self.old.config.formats }
         ensures { Takes self.old self.new saved.now running.now next.now result }
     {
         let area = self.config.area as usize;
@@ -162,6 +165,9 @@ impl<F: Flash + Drop> Device<F> {
         let Some(outbox) = Outbox::read(saved) else {
             return false;
         };
+        if !take_slots(&mut self.slots, saved, running, next) {
+            return false;
+        }
         self.outbox = outbox;
         self.clock = clock_in(saved);
         self.last_due = moment_in(saved);
@@ -169,7 +175,6 @@ impl<F: Flash + Drop> Device<F> {
         self.class_session = session_in(saved);
         self.reboot = reboot_in(saved);
         self.counts = counts_in(saved);
-        take_slots(&mut self.slots, saved, running, next);
         if self.sessions.is_down() {
             self.sessions.set_flags(flags_in(saved));
         }
@@ -182,7 +187,8 @@ fn take_groups(groups: &mut GroupTable, number: u8, saved: &[u8])
     requires few { number ≤ 4 }
     requires places { length groups.old ≡ number }
     requires long { 460 ≤ length saved.now }
-    ensures { groups.new ≡ groups_in saved.now number }
+    ensures groups { groups.new ≡ groups_in saved.now number }
+    ensures places { length groups.new ≡ number }
 {
     for id in 0..number {
         groups.put(id, place_in(saved, id));

@@ -89,6 +89,7 @@ fn class_session_after(
     old: Option<ClassSession>,
 ) -> Option<ClassSession>
     requires old { SessionFits old }
+    requires id { session.id < 4 }
     requires timeout { session.timeout < 16 }
     requires kind { KindFits session.kind }
     ensures value { result ≡ class_session_after bits session old }

@@ -6,7 +6,7 @@ use Rattle.device_core.specs.Saving.{saved_of}
 use Rattle.device_core.specs.SavingInside.{flags_in}
 use Rattle.device_core.specs.SessionTable.{no_sessions}
 use Rattle.device_core.proofs.Saved.{saved_long}
-use Rattle.device_core.proofs.Restored.{restored, can_take, saved_again}
+use Rattle.device_core.proofs.Restored.{told_record, restored, can_take, saved_again}
 use Rattle.device_core.proofs.device.Device.resume.Goals as goal
 use Rattle.device_core.proofs.device.Device.resume.Goals.{then-saved-ne-MAX_SAVED_DEVICE-via-then-saved-ne-MAX_SAVED_DEVICE, then-saved-ne-MAX_SAVED_DEVICE-via-else-saved-ne-MAX_SAVED_DEVICE+then-not-take_saved}
 
@@ -22,7 +22,7 @@ returns-then-saved-ne-MAX_SAVED_DEVICE g c = λ config flash starts device flags
 pub returns-then-not-is_same : goal.returns-then-not-is_same
 returns-then-not-is_same g c = λ config flash starts device flags is.
     let wrote : c.saved_with-again.result.items ≡ saved_of (device_of c.take_saved.new.self no_sessions) (flags_in c.args.saved.now) =
-    c.saved_with-again.ensures no_sessions
+    c.saved_with-again.ensures.bytes no_sessions
     ∙ ap (λ (f : CompleteFlags). saved_of (device_of c.take_saved.new.self no_sessions) f) c.flags_in.ensures in
     let again = saved_again config flash c.args.self.now c.take_saved.new.self c.args.saved.now c.args.running.now c.args.next.now
     c.saved_with-again.result.items c.take_saved.result device flags starts c.take_saved.ensures c.if-not-take_saved.false wrote is in
@@ -34,9 +34,12 @@ pub returns : goal.returns
 returns g c = λ config flash starts.
     let same : c.saved_with-again.result.items ≡ c.args.saved.now = sym c.as_slice.ensures.value ∙ c.is_same.ensures.0 c.if-not-is_same.false in
     let wrote : c.saved_with-again.result.items ≡ saved_of (device_of c.take_saved.new.self no_sessions) (flags_in c.args.saved.now) =
-    c.saved_with-again.ensures no_sessions
+    c.saved_with-again.ensures.bytes no_sessions
     ∙ ap (λ (f : CompleteFlags). saved_of (device_of c.take_saved.new.self no_sessions) f) c.flags_in.ensures in
-    let few : config.groups ≤ 4 = subst (λ (n : ℕ). n ≤ 4) (ap (λ (d : DeviceState). d.config.groups) starts.rest) c.requires.few in
+    let told = told_record config flash c.args.self.now c.take_saved.new.self c.args.saved.now c.args.running.now c.args.next.now
+    c.take_saved.result starts c.take_saved.ensures c.if-not-take_saved.false in
+    let few : config.groups ≤ 4 = subst (λ (n : ℕ). n ≤ 4) (ap (λ (d : DeviceState). d.config.groups) told)
+    (c.saved_with-again.ensures.over no_sessions).few_places in
     restored config flash c.args.self.now c.take_saved.new.self c.args.saved.now c.args.running.now c.args.next.now
     c.saved_with-again.result.items c.take_saved.result starts c.take_saved.ensures c.if-not-take_saved.false (λ k. (c.type_inv.saved k).fits)
     (omega (arith, c.if-saved-ne-MAX_SAVED_DEVICE.false)) few wrote same

@@ -16,7 +16,7 @@ pub returns-else-eq-clause-none : goal.returns-else-eq-clause-none
 returns-else-eq-clause-none c = λ is.
     let spelled = same_payload (record { due = c.args.due; port = c.args.port; payload = c.args.payload.now }) c.in-Ok.message c.next.new.self
     c.in_ok-command.command c.in-Ok.ensures.reading c.in_ok-command.ensures.takes is in
-    let held : c.of-uplink.result.payload ≡ canonical c.in_ok-command.command = ap (λ (u : Uplink). u.payload) c.of-uplink.ensures in
+    let held : c.of-uplink.result.payload ≡ canonical c.in_ok-command.command = ap (λ (u : Uplink). u.payload) c.of-uplink.ensures.uplink in
     let inside : c.uplink.inside.bytes.items ≡ c.of-uplink.result.payload = ap (λ (u : Uplink). u.payload) c.uplink.view_is in
     let same : c.as_slice.result.now ≡ c.args.payload.now = c.as_slice.ensures.value ∙ inside ∙ held ∙ spelled in
     let equal : c.eq.result ≡ true = c.eq.ensures ∙ (bytes_eq-Decides c.as_slice.result.now c.args.payload.now).1 same in
