@@ -11,6 +11,7 @@ use Rattle.pair_laws.proofs.EachCampaign.{verdicts, devices}
 use Rattle.isolation_laws.proofs.EachHeadline.{headlines}
 use Rattle.isolation_laws.proofs.Placed.{reported}
 use Rattle.isolation_laws.proofs.Alone.{isolated}
+use Rattle.isolation_laws.proofs.AtMoments.{scripts}
 use Rattle.fuota_run.specs.declared.status.Status.{Status}
 use Rattle.fuota_run.specs.Outside.{Held}
 use Rattle.fuota_run.specs.Words.{Invocation}
@@ -61,6 +62,7 @@ apart x image_a image_b script pair s = record {
   };
   placed = λ number device there. reported x image_a image_b (lines_of script) pair number device s there;
   isolated = isolated x image_a image_b (lines_of script) pair s;
+  moments = scripts x image_a image_b (lines_of script) pair s;
 }
 
 pub pair_run : (words : List (List ℕ)) (held : Held) (s : Status) (old new : Option (List ℕ)) → AppendsAnswer (Some held) words s old new

@@ -9,14 +9,17 @@ use Rattle.campaign_laws.specs.Headline.{HasNoOther}
 use Rattle.campaign_laws.proofs.FormBytes.{script_fits}
 use Rattle.campaign_laws.proofs.HeadlineLaw.{headline}
 use Rattle.campaign_laws.proofs.IndexedLines.{index_is}
+use Rattle.campaign_laws.proofs.Ledger.{the_ledger_is_true}
 use Rattle.campaign_laws.proofs.Verdicts.{verdicts}
 use Rattle.fuota_run.specs.declared.status.Status.{Status}
 use Rattle.fuota_run.specs.declared.status.Status.TheVariants as status
 use Rattle.fuota_run.specs.Outside.{Held}
 use Rattle.fuota_run.specs.Answer.{Answer, answer, IsAnswer}
 use Rattle.fuota_run.specs.Ending.{AppendsAnswer, WhereNoneFails}
-use Rattle.fuota_run.specs.Headline.{IsCampaignRun, IsWritten, IsRecoveryRun}
-use Rattle.fuota_run.proofs.HeadlineAnswered.{answered, recovery_answered}
+use Rattle.fuota_run.specs.Headline.{IsCampaignRun, IsWritten, IsRecoveryRun, IsReplayRun, IsSeedRun}
+use Rattle.fuota_run.proofs.HeadlineAnswered.{answered, recovery_answered, seed_answered}
+use Rattle.fuota_run.proofs.ReplayAnswered.{answered as replay_answered}
+use Rattle.payload_replay.proofs.ReplayLaw.{replay_headline}
 
 -- what holds of every Some
 pub if_some_map : {T : Type 0} {P Q : T → Type 0} (o : Option T) → ((x : T) → P x → Q x) → IfSome o P → IfSome o Q
@@ -55,6 +58,8 @@ campaign_run words held s old new given image script world handed bytes accepted
         recovered = headline.recovered image (said_in script) world id stage device session fits is;
         reported = headline.reported image (said_in script) world id stage device session fits is;
       };
+      ledger = λ id honest at. the_ledger_is_true image (said_in script) world id bytes handed.image_fine fits
+          (subst (λ (i : ℕ). AreHonest i (said_in script)) (sym index) honest) accepted at;
       verdicts = λ id device index s is. record {
         heard = verdicts.heard image (said_in script) world id device index s is;
         decided = verdicts.decided image (said_in script) world id device index s is;
@@ -71,3 +76,18 @@ recovery_run words held s old new given device image script world handed accepte
   no_file = λ why there. written words held s old new _ given
       (recovery_answered.no_file words held device image script world why handed accepted there);
 }
+
+pub replay_run : (words : List (List ℕ)) (held : Held) (s : Status) (old new : Option (List ℕ)) → AppendsAnswer (Some held) words s old new → IsReplayRun words held s old new
+replay_run words held s old new given file device handed reaches = record {
+  text = written words held s old new _ given (replay_answered words held handed.name file device handed.form handed.file_held handed.short reaches);
+  verdicts = λ index session is. record {
+    heard = replay_headline.heard file device index session is;
+    decided = replay_headline.decided file device index session is;
+    told = replay_headline.told file device index session is;
+  };
+}
+
+pub seed_run : (words : List (List ℕ)) (held : Held) (s : Status) (old new : Option (List ℕ)) → AppendsAnswer (Some held) words s old new → IsSeedRun words s old new
+seed_run words held s old new given seed form =
+    let its = seed_answered words held seed form in
+    (its.0, its.1, written words held s old new _ given its.2)

@@ -12,7 +12,9 @@ use Rattle.campaign_laws.specs.Headline.{IsOfItsLine, HasNoOther, IsServed, Hear
 use Rattle.device_core.specs.Events.{CameInTurn}
 use Rattle.campaign_laws.specs.Verdicts.{Carries, IsToldOf, IsSessionOf}
 use Rattle.campaign_laws.specs.Accepted.{IsCampaignOf}
+use Rattle.campaign_laws.specs.Ledger.{Runs}
 use Rattle.campaign_server.specs.declared.stage.Stage.{Stage}
+use Rattle.campaign_server.specs.declared.stage.Stage.TheVariants.{Updated}
 use Rattle.campaign_server.specs.Server.{ledger}
 use Rattle.wire_base.specs.Numbered.{numbered}
 use Rattle.frag_session.specs.Session.{Session}
@@ -26,6 +28,7 @@ use Rattle.script_lines.specs.Lines.{lines_of}
 use Rattle.payload_replay.specs.Replay.{Reaches, Replays, closing_text, replay_text}
 use Rattle.payload_replay.specs.Capture.{Caught, CatchesAll, capture_text}
 use Rattle.payload_replay.specs.CaptureReplay.{IsReplayOf, entries_text}
+use Rattle.payload_replay.specs.ReplayHeadline as replayed
 use Rattle.capture_read.specs.declared.answers.Entry.{Entry}
 use Rattle.fuota_run.specs.declared.forms.FileForm.{FileForm}
 use Rattle.fuota_run.specs.declared.forms.FileForm.TheVariants.{Replay, Capture}
@@ -137,6 +140,8 @@ pub record IsReportWritten (image script : List ℕ) (world : WorldState) (s : S
   pub one : (id : ℕ) (device : DeviceState) → AreHonest 0 (said_in script) → numbered world.devices id ≡ Some device → HasNoOther 0 device.sessions
   pub headline : (id : ℕ) (stage : Stage) (device : DeviceState) (session : Session)
       → IsCampaign image (said_in script) world id stage device session → IsHeadline image script world id stage device session
+  -- where the server says that a device is updated, the device runs the image, if the script is honest
+  pub ledger : (id : ℕ) → AreHonest 0 (said_in script) → ledger world.server id ≡ Some Updated → Runs image world.devices id
   -- and of each session, honest or not, the verdict
   pub verdicts : (id : ℕ) (device : DeviceState) (index : ℕ) (s : Session) → IsSessionOf image (said_in script) world id device index s
       → IsVerdict image script world id device index s
@@ -159,3 +164,24 @@ pub record IsRecoveryWritten (image script : List ℕ) (world : WorldState) (dev
 abbrev pub IsRecoveryRun : List (List ℕ) → Held → Status → Option (List ℕ) → Option (List ℕ) → Type 0
 IsRecoveryRun words held s old new = (device : ℕ) (image script : List ℕ) (world : WorldState) → AreHandedIn words held (Recover device) image script
     → campaign_of image (said_in script) ≡ Ok world → IsRecoveryWritten image script world device s old new
+
+-- what is said of each session of a device that heard the payloads of a file
+pub record IsReplayVerdict (file : List ℕ) (device : DeviceState) (index : ℕ) (s : Session) : Type 0 where
+  pub heard : CameInTurn (replayed.Carries (lines_of file)) index (length (lines_of file)) s.heard
+  pub decided : IsDecidedAtFirst s
+  pub told : replayed.IsToldOf device index s
+
+-- the text of that device was appended, and it says of each session what the lines have for it
+pub record IsReplayWritten (file : List ℕ) (device : DeviceState) (s : Status) (old new : Option (List ℕ)) : Type 0 where
+  pub text : IsWritten (answer status.Done (replay_text device)) s old new
+  pub verdicts : (index : ℕ) (session : Session) → replayed.IsReplayed file device index session
+      → IsReplayVerdict file device index session
+
+abbrev pub IsReplayRun : List (List ℕ) → Held → Status → Option (List ℕ) → Option (List ℕ) → Type 0
+IsReplayRun words held s old new = (file : List ℕ) (device : DeviceState) → IsFileHandedIn words held Replay file
+    → Reaches (lines_of file) (Ok device) → IsReplayWritten file device s old new
+
+-- for any seed no line of its campaign is refused, and its summary was appended
+abbrev pub IsSeedRun : List (List ℕ) → Status → Option (List ℕ) → Option (List ℕ) → Type 0
+IsSeedRun words s old new = (seed : ℕ) → asked words ≡ Some (generates seed)
+    → (world : WorldState) × IsCampaignOf seed world × IsWritten (summary_answer seed world) s old new

@@ -17,12 +17,13 @@ use Rattle.campaign_world.specs.Script.{campaign_of}
 use Rattle.campaign_laws.specs.Headline.{HasNoOther, IsServed, HearsBrought, IsRecovered}
 use Rattle.campaign_laws.specs.Verdicts.{Carries}
 use Rattle.campaign_laws.specs.Independence.{own_record}
-use Rattle.pair_run.specs.Pair.{PairState, side}
+use Rattle.pair_run.specs.Pair.{PairState, first_pair, side, other}
 use Rattle.pair_run.specs.PairLines.{image_of}
 use Rattle.pair_run.specs.PairScript.{campaigns_in}
 use Rattle.pair_run.specs.PairReport.{pair_report_of}
 use Rattle.pair_laws.specs.EachCampaign.{own_lines, IsSessionOf}
 use Rattle.isolation_laws.specs.EachHeadline.{HasSession, IsToldOf}
+use Rattle.isolation_laws.specs.AtMoments.{IsBesideMoments, with_moments}
 use Rattle.isolation_laws.specs.Isolation.{IsScriptOfTwo, IsAlone, lines_alone}
 use Rattle.isolation_laws.specs.PairTold.{IsPlaced}
 use Rattle.fuota_run.specs.declared.status.Status.{Status}
@@ -110,6 +111,9 @@ pub record IsApartOfTwo (x : Campaign) (image_a image_b script : List ℕ) (pair
   -- and nothing that the other sends changes more than the counters of its devices
   pub isolated : (alone : WorldState)
       × IsAlone (image_of x image_a image_b) (lines_alone x image_a image_b (lines_of script)) (side pair x) alone
+  -- so in the same script, where each event of the other is written as `at` its moment
+  pub moments : (beside : PairState) × (let moments = with_moments (other x) (first_pair image_a image_b) (lines_of script) in
+      IsBesideMoments x image_a image_b moments pair beside)
 
 -- so is each of any two campaigns that are accepted, whose images are bytes
 abbrev pub AreTwoApart : Type 0

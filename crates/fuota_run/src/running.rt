@@ -6,7 +6,7 @@ ghost use Rattle.fuota_run.specs.Outside.{HoldsName};
 ghost use Rattle.image_slots.specs.Image.{is_image};
 ghost use Rattle.fuota_run.specs.Words.{plays, plays_two, generates, asked, seen_asked, asks_files};
 ghost use Rattle.fuota_run.specs.Ending.{HoldsForm, HoldsInvocation, OutsideFiles, IsSoundAnswer, IsSoundOver, WhereNoneFails, IsImageRead, IsReadUp, Ends, AppendsAnswer, IsNoForm, IsFinished, IsFaultless};
-ghost use Rattle.fuota_run.specs.Headline.{IsCampaignRun, IsCaptureRun, IsRecoveryRun};
+ghost use Rattle.fuota_run.specs.Headline.{IsCampaignRun, IsCaptureRun, IsRecoveryRun, IsReplayRun, IsSeedRun};
 ghost use Rattle.fuota_run.specs.PairHeadline.{IsPairRun};
 ghost use Rattle.fuota_run.specs.Source.{IsTakenOf};
 ghost use Rattle.fuota_run.specs.HeldAnswer.{answer_in};
@@ -52,7 +52,8 @@ pub fn run<F: Files, O: Sink>(alloc: Global, words: &[String], files: &mut F, ou
 
     // So a campaign's whole report is written, and what it says of each device's session is its verdict at the first moment over
     // what the lines bring. Where the script is honest, it is the headline: the session hears what the script delivers, and is
-    // complete from the first fragment on after which only one file fits, the image.
+    // complete from the first fragment on after which only one file fits, the image; and where the ledger says that a device is
+    // updated, it runs the image.
     ensures headline { WhereNoneFails (F.held files.old)
         (F.faults files.old) (F.faults files.new) (O.faults out.old) (O.faults out.new) result
         (λ held. IsCampaignRun (map string_bytes words.now) held result
@@ -62,6 +63,19 @@ pub fn run<F: Files, O: Sink>(alloc: Global, words: &[String], files: &mut F, ou
     ensures recovery { WhereNoneFails (F.held files.old)
         (F.faults files.old) (F.faults files.new) (O.faults out.old) (O.faults out.new) result
         (λ held. IsRecoveryRun (map string_bytes words.now) held result
+        (O.written out.old) (O.written out.new)) }
+
+    // A replay is written as the text of the device that heard the payloads, and what it says of each session is its verdict at
+    // the first moment over what the lines have.
+    ensures replay { WhereNoneFails (F.held files.old)
+        (F.faults files.old) (F.faults files.new) (O.faults out.old) (O.faults out.new) result
+        (λ held. IsReplayRun (map string_bytes words.now) held result
+        (O.written out.old) (O.written out.new)) }
+
+    // The campaign of a seed is accepted, and as many devices are updated as have the file.
+    ensures seed { WhereNoneFails (F.held files.old)
+        (F.faults files.old) (F.faults files.new) (O.faults out.old) (O.faults out.new) result
+        (λ _. IsSeedRun (map string_bytes words.now) result
         (O.written out.old) (O.written out.new)) }
 
     // A capture whose payloads all go down on port 201 ends as the replay of them does.

@@ -3,7 +3,7 @@ use Rattle.std.specs.Io.KnownBytes.{Appends}
 use Rattle.fuota_run.specs.Outside.{AppendsFront}
 use Rattle.fuota_run.specs.HeldAnswer.{answer_in}
 use Rattle.fuota_run.proofs.AnswerLemmas.{ends_written, exact_of, front_of}
-use Rattle.fuota_run.proofs.RunHeadline.{where_none_map, campaign_run, recovery_run}
+use Rattle.fuota_run.proofs.RunHeadline.{where_none_map, campaign_run, recovery_run, replay_run, seed_run}
 use Rattle.fuota_run.proofs.CaptureAnswered.{capture_run}
 use Rattle.fuota_run.proofs.PairAnswered.{pair_run}
 use Rattle.fuota_run.proofs.running.run.Goals as goal
@@ -18,6 +18,12 @@ returns-in-Ok-write_text-clause-headline g c = where_none_map _ _ _ _ _ _ (λ he
 
 pub returns-in-Ok-write_text-clause-recovery : goal.returns-in-Ok-write_text-clause-recovery
 returns-in-Ok-write_text-clause-recovery g c = where_none_map _ _ _ _ _ _ (λ held. recovery_run _ held _ _ _) (returns-in-Ok-write_text-clause-exact g c)
+
+pub returns-in-Ok-write_text-clause-replay : goal.returns-in-Ok-write_text-clause-replay
+returns-in-Ok-write_text-clause-replay g c = where_none_map _ _ _ _ _ _ (λ held. replay_run _ held _ _ _) (returns-in-Ok-write_text-clause-exact g c)
+
+pub returns-in-Ok-write_text-clause-seed : goal.returns-in-Ok-write_text-clause-seed
+returns-in-Ok-write_text-clause-seed g c = where_none_map _ _ _ _ _ _ (λ held. seed_run _ held _ _ _) (returns-in-Ok-write_text-clause-exact g c)
 
 pub returns-in-Ok-write_text-clause-capture : goal.returns-in-Ok-write_text-clause-capture
 returns-in-Ok-write_text-clause-capture g c = where_none_map _ _ _ _ _ _ (λ held. capture_run _ held _ _ _) (returns-in-Ok-write_text-clause-exact g c)
