@@ -1,0 +1,3 @@
+pub mod Bringing
+pub mod Requests
+pub mod Moving
