@@ -9,8 +9,8 @@ import sys
 import types
 
 TOP = pathlib.Path(__file__).resolve().parent.parent
-# (the packages of tools/, for all tests)
-sys.path.insert(0, str(TOP / "tools"))
+# (the packages of python/ and tools/, for all tests)
+sys.path[:0] = [str(TOP / "python"), str(TOP / "tools")]
 CRATE = TOP / "crates" / "fuota"
 BUILT = CRATE / "out" / "fuota"
 

@@ -1,11 +1,9 @@
-"""The receiver of fuota.h from Python: python3 c/receive.py library/libfuota.so
+"""The receiver of fuota.h from Python: python3 python/receive.py library/libfuota.so
 
 A file of 6 bytes in 3 pieces of 2, of which the second is lost and a coded fragment makes it good.
 """
 import sys
 
-# (so that what is imported leaves no compiled file beside it)
-sys.dont_write_bytecode = True
 import fuota
 
 with fuota.Receiver(library=sys.argv[1]) as receiver:

@@ -1,0 +1,2 @@
+"""Firmware update over the air for LoRaWAN, from Python."""
+from .library import *
