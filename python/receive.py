@@ -11,4 +11,4 @@ with fuota.Receiver(library=sys.argv[1]) as receiver:
     for number, payload in enumerate(("0801001122", "0803005566", "0804003344"), 1):
         assert receiver.file() is None
         receiver.hear(bytes.fromhex(payload), number)
-    print(receiver.file().hex())
+    print((receiver.file() or b"").hex())

@@ -4,7 +4,7 @@
         down = server.ask(1)
 
 The library is the file that `library` names, else the one that the environment's FUOTA_LIBRARY names, else libfuota.so
-as the system finds it. What fuota.h calls FUOTA_NOTHING is None here; each other answer but FUOTA_DONE is an `Error`. A
+beside this module, where a wheel has it, or as the system finds it. What fuota.h calls FUOTA_NOTHING is None here; each other answer but FUOTA_DONE is an `Error`. A
 number that has no room in its type is `OutOfRange`, and the library is not called. What C owes is seen to here, but for
 this: all calls on one object come from one thread, and an object is not copied.
 
@@ -13,11 +13,16 @@ To add a call, its line of fuota.h goes into CALLS, without the names of its par
 import ctypes
 import enum
 import os
+import pathlib
 import re
+from collections.abc import Iterable
+from types import TracebackType
+from typing import Any, ClassVar, Self, TypeVar
+
+from .limits import MAX_PAYLOAD
 
 U8, U16, U32, U64, BOOL = ctypes.c_uint8, ctypes.c_uint16, ctypes.c_uint32, ctypes.c_uint64, ctypes.c_bool
 LENGTH = U64
-MAX_PAYLOAD = 242
 KEY = U8 * 16
 NO_RECEIVER = 255
 SAVED_DEVICE, SAVED_SERVER, MAX_FRAME, LONGEST_SPAN = 492, 428, 255, 631_573
@@ -128,9 +133,9 @@ ENUMS = {"answer": Answer, "verdict": Verdict, "field": Field, "stage_kind": Sta
 class Error(Exception):
     """A call answered with this number; `name` is that of `Answer`."""
 
-    answer = None
+    answer: ClassVar[Answer]
 
-    def __init__(self, words=None):
+    def __init__(self, words: str | None = None) -> None:
         self.number, self.name = int(self.answer), self.answer.name
         super().__init__(words or self.__doc__)
 
@@ -150,7 +155,7 @@ class OutOfRange(Error):
 class WrongField(OutOfRange):
     """A field of a plan is wrong: `field` is its number."""
 
-    def __init__(self, field):
+    def __init__(self, field: int) -> None:
         super().__init__(f"the plan is wrong: {Field(field).name}")
         self.field = Field(field)
 
@@ -176,7 +181,7 @@ class Refused(Error):
 class NoText(Refused):
     """The payload has no text: `at` is the byte at which reading it stops, from 0, and `why` the number of the cause."""
 
-    def __init__(self, at, why):
+    def __init__(self, at: int, why: int) -> None:
         super().__init__(f"{Why(why).name} at byte {at}")
         self.at, self.why = at, Why(why)
 
@@ -223,7 +228,7 @@ class BadFlash(Error):
     answer = Answer.FLASH
 
 
-ERRORS = {kind.answer: kind
+ERRORS: dict[int, type[Error]] = {kind.answer: kind
           for kind in (NoObject, OutOfRange, NoRoom, NoMemory, Refused, Deaf, Full, Spent, Corrupt, Foreign,
                        NoPower, BadFlash)}
 
@@ -231,7 +236,7 @@ ERRORS = {kind.answer: kind
 # ---- Structs
 
 
-def fitting(kind, number):
+def fitting(kind: Any, number: Any) -> int:
     """A number that has room in a type of the header; a truth value is one too."""
     if kind is BOOL:
         return bool(number)
@@ -243,8 +248,9 @@ def fitting(kind, number):
 class Struct(ctypes.Structure):
     """A struct of the header, by the names of its fields; what is not named is 0."""
 
-    def __init__(self, **fields):
-        kinds = dict(self._fields_)
+    def __init__(self, **fields: Any) -> None:
+        super().__init__()
+        kinds: dict[str, Any] = {it[0]: it[1] for it in self._fields_}
         unknown = sorted(set(fields) - set(kinds))
         if unknown:
             raise TypeError(f"{type(self).__name__} has no field {', '.join(unknown)}")
@@ -297,7 +303,7 @@ class Uplink(Struct):
     _fields_ = [("due", U64), ("length", LENGTH), ("port", U8), ("payload", U8 * MAX_PAYLOAD)]
 
     @property
-    def data(self):
+    def data(self) -> bytes:
         return bytes(self.payload[:self.length])
 
 
@@ -340,7 +346,7 @@ class Down(Struct):
                 ("payload", U8 * MAX_PAYLOAD)]
 
     @property
-    def data(self):
+    def data(self) -> bytes:
         return bytes(self.payload[:self.length])
 
 
@@ -356,63 +362,69 @@ class Decoded(Struct):
     _fields_ = [("length", LENGTH), ("at", U16), ("why", U8)]
 
 
-STRUCTS = {"fuota_receiver": Handle, "fuota_device": Handle, "fuota_server": Handle, "fuota_view": View,
+STRUCTS: dict[str, Any] = {"fuota_receiver": Handle, "fuota_device": Handle, "fuota_server": Handle, "fuota_view": View,
            "fuota_setup": Setup, "fuota_config": Config, "fuota_arrival": Arrival, "fuota_uplink": Uplink,
            "fuota_plan": Plan, "fuota_plan_device": PlanDevice, "fuota_counts": Counts, "fuota_next": Next,
            "fuota_status": Status, "fuota_down": Down, "fuota_stage": Stage, "fuota_decoded": Decoded}
-TYPES = {"uint8_t": U8, "uint16_t": U16, "uint32_t": U32, "uint64_t": U64, "fuota_length": LENGTH, "bool": BOOL, "void": None}
+TYPES: dict[str, Any] = {"uint8_t": U8, "uint16_t": U16, "uint32_t": U32, "uint64_t": U64, "fuota_length": LENGTH, "bool": BOOL, "void": None}
 
 
 # ---- The library
 
 
-def type_of(words):
+def type_of(words: str) -> Any:
     """The type that ctypes takes for one of C."""
     name = words.replace("const", "").replace("*", "").strip()
     kind = STRUCTS.get(name) or TYPES[name]
     return ctypes.POINTER(kind) if "*" in words else kind
 
 
-def held(data):
-    """Bytes that a call reads, and their number; the pointer is good for none too."""
+def held(data: bytes) -> tuple[Any, int]:
+    """Bytes that a call reads, and their number; the pointer is valid for zero bytes too."""
     return (U8 * max(1, len(data))).from_buffer_copy(bytes(data) or b"\0"), len(data)
+
+
+T = TypeVar("T", bound=ctypes.Structure)
+Path = str | os.PathLike[str]
+INSTALLED = pathlib.Path(__file__).with_name("libfuota.so")
 
 
 class Library:
     """The calls of a file libfuota.so, each by its name without `fuota_`."""
 
-    def __init__(self, path=None):
-        shared = ctypes.CDLL(os.fspath(path or os.environ.get("FUOTA_LIBRARY") or "libfuota.so"))
-        self.functions = {}
+    def __init__(self, path: Path | None = None) -> None:
+        near = INSTALLED if INSTALLED.is_file() else "libfuota.so"
+        shared = ctypes.CDLL(str(path or os.environ.get("FUOTA_LIBRARY") or near))
+        self.functions: dict[str, Any] = {}
         for result, name, kinds in re.findall(r"(\w+) fuota_(\w+)\((.*)\);", CALLS):
             function = getattr(shared, "fuota_" + name)
-            kinds = [type_of(kind) for kind in kinds.split(", ") if kind != "void"]
-            function.restype, function.argtypes = type_of(result), kinds
+            function.argtypes = [type_of(kind) for kind in kinds.split(", ") if kind != "void"]
+            function.restype = type_of(result)
             self.functions[name] = function
 
-    def call(self, name, *words):
+    def call(self, name: str, *words: Any) -> Any:
         """Makes a call; a number that has no room in its type is refused before."""
         function = self.functions[name]
         numbers = TYPES.values()
         return function(*(fitting(kind, word) if kind in numbers else word for kind, word in zip(function.argtypes, words)))
 
-    def done(self, name, *words):
+    def done(self, name: str, *words: Any) -> bool:
         """Makes a call that answers with a number of `Answer`: whether there was something."""
         answer = self.call(name, *words)
         if answer not in (Answer.DONE, Answer.NOTHING):
             raise ERRORS[answer]()
-        return answer == Answer.DONE
+        return bool(answer == Answer.DONE)
 
-    def version(self):
+    def version(self) -> tuple[int, int, int]:
         """Its version, as three numbers."""
         number = self.call("version")
         return number >> 16, number >> 8 & 255, number & 255
 
-    def pointer_bits(self):
+    def pointer_bits(self) -> int:
         """The bits of a pointer for which it was built."""
-        return self.call("pointer_bits")
+        return int(self.call("pointer_bits"))
 
-    def decode(self, port, up, payload):
+    def decode(self, port: int, up: bool, payload: bytes) -> str:
         """The commands of a payload of port 200 to 203, each on a line; `NoText` where it spells none."""
         told, room = Decoded(), 2048
         while True:
@@ -427,41 +439,40 @@ class Library:
             room = told.length
 
 
-def library_of(library):
+def library_of(library: Library | Path | None) -> Library:
     return library if isinstance(library, Library) else Library(library)
 
 
 class Object:
     """An object of the library behind its handle."""
 
-    kind = None
+    kind: ClassVar[str]
 
-    def __init__(self, library=None):
+    def __init__(self, library: Library | Path | None = None) -> None:
         self.library, self.handle = library_of(library), Handle()
 
-    def __enter__(self):
+    def __enter__(self) -> Self:
         return self
 
-    def __exit__(self, *_):
+    def __exit__(self, *_: type[BaseException] | BaseException | TracebackType | None) -> None:
         self.free()
 
-    def call(self, name, *words):
+    def call(self, name: str, *words: Any) -> Any:
         return self.library.call(f"{self.kind}_{name}", ctypes.byref(self.handle), *words)
 
-    def done(self, name, *words):
+    def done(self, name: str, *words: Any) -> bool:
         return self.library.done(f"{self.kind}_{name}", ctypes.byref(self.handle), *words)
 
-    def told(self, name, *words):
-        """What a call writes into the struct that comes last; None where there is nothing."""
-        out = words[-1]
-        return out if self.done(name, *words[:-1], ctypes.byref(out)) else None
+    def told(self, name: str, out: T, *words: Any) -> T | None:
+        """What a call writes into a struct, which it takes last; None where there is nothing."""
+        return out if self.done(name, *words, ctypes.byref(out)) else None
 
-    def copied(self, name, room, *words):
+    def copied(self, name: str, room: int, *words: Any) -> bytes:
         """What a call copies into so many bytes."""
         into = (U8 * max(1, room))()
         return bytes(memoryview(into)[:self.call(name, *words, into, room)])
 
-    def free(self):
+    def free(self) -> None:
         """Frees the object; each later call is `NoObject`, or has nothing to give."""
         self.call("free")
 
@@ -471,32 +482,31 @@ class Receiver(Object):
 
     kind = "receiver"
 
-    def __init__(self, size=Size.SIZE_SMALL, library=None):
+    def __init__(self, size: int = Size.SIZE_SMALL, library: Library | Path | None = None) -> None:
         super().__init__(library)
         self.done("new", size)
 
-    def set_up(self, **fields):
+    def set_up(self, **fields: int) -> int:
         """FragSessionSetupReq: all refusal bits of its answer, 0 where the session lives."""
-        bits = self.call("set_up", ctypes.byref(Setup(**fields)))
+        bits = int(self.call("set_up", ctypes.byref(Setup(**fields))))
         if bits == NO_RECEIVER:
             raise NoObject()
         return bits
 
-    def hear(self, payload, mark):
+    def hear(self, payload: bytes, mark: int) -> None:
         """Hears a payload of port 201 that came by unicast; `mark` is the caller's own."""
         self.done("hear", *held(payload), mark)
 
-    def view(self):
+    def view(self) -> View | None:
         """What the session shows; None without one."""
         return self.told("view", View())
 
-    def file(self):
+    def file(self) -> bytes | None:
         """The whole file; None before it is whole."""
         view = self.view()
-        whole = view is not None and view.verdict == Verdict.COMPLETE
-        return self.copied("file", view.file_length, 0) if whole else None
+        return self.copied("file", view.file_length, 0) if view and view.verdict == Verdict.COMPLETE else None
 
-    def status(self, is_all):
+    def status(self, is_all: bool) -> bytes | None:
         """FragSessionStatusAns as its 5 bytes; None where none is to be sent."""
         return self.copied("status", 5, is_all) or None
 
@@ -507,86 +517,88 @@ class Device(Object):
 
     kind = "device"
 
-    def __init__(self, config, library=None, flash=None, span=LONGEST_SPAN, size=Size.SIZE_LARGE):
+    def __init__(self, config: Config, library: Library | Path | None = None, flash: bytes | None = None,
+                 span: int = LONGEST_SPAN, size: int = Size.SIZE_LARGE) -> None:
         super().__init__(library)
         self.begin("new", size, config, flash, span)
 
     @classmethod
-    def restore(
-            cls, config, saved, running=b"", following=b"", library=None, flash=None, span=LONGEST_SPAN, size=Size.SIZE_LARGE):
+    def restore(cls, config: Config, saved: bytes, running: bytes = b"", following: bytes = b"",
+                library: Library | Path | None = None, flash: bytes | None = None, span: int = LONGEST_SPAN,
+                size: int = Size.SIZE_LARGE) -> Self:
         """The device that saved these bytes, with the files that ran and that was received to run next."""
         device = cls.__new__(cls)
         Object.__init__(device, library)
         device.begin("restore", size, config, flash, span, *held(saved), *held(running), *held(following))
         return device
 
-    def begin(self, name, size, config, flash, span, *words):
+    def begin(self, name: str, size: int, config: Config, flash: bytes | None, span: int, *words: Any) -> None:
         self.area, self.flash_size = config.area, 0 if flash is None else len(flash)
         if flash is None:
             self.done(name, size, ctypes.byref(config), *words)
         else:
             self.done(f"{name}_in_flash", size, ctypes.byref(config), span, *held(flash), *words)
 
-    def power(self):
+    def power(self) -> None:
         """Opens the sessions that are held in its flash."""
         self.done("power")
 
-    def flash(self):
+    def flash(self) -> bytes:
         """The bytes of its flash, to be kept with those of `save`."""
         return self.copied("flash", self.flash_size, 0)
 
-    def deliver(self, port, payload, t, mark=0, word=0, group=None):
+    def deliver(self, port: int, payload: bytes, t: int, mark: int = 0, word: int = 0,
+                group: tuple[int, int] | None = None) -> None:
         """Brings a payload at `t` ms of true time; `group` is a pair of address and frame count, or None by unicast."""
         arrival = Arrival(t=t, mark=mark, word=word)
         if group:
             arrival = Arrival(t=t, mark=mark, word=word, addr=group[0], count=group[1], is_group=True)
         self.done("deliver", port, *held(payload), ctypes.byref(arrival))
 
-    def radio(self, frame, t, mark=0, word=0):
+    def radio(self, frame: bytes, t: int, mark: int = 0, word: int = 0) -> None:
         """Brings what the radio heard at `t` ms of true time; `Foreign` where it is no frame of the group that is heard."""
         self.done("radio", *held(frame), t, word, mark)
 
-    def counts(self):
+    def counts(self) -> Counts:
         """Its counters."""
-        return self.told("counts", Counts())
+        return self.told("counts", Counts()) or Counts()
 
-    def next(self):
+    def next(self) -> Next:
         """What was received to run next is to it."""
-        return self.told("next", Next())
+        return self.told("next", Next()) or Next()
 
-    def raise_formats(self):
+    def raise_formats(self) -> None:
         """Both image formats are known from now on, and what was received to run next is read again."""
         self.done("raise")
 
-    def wake(self, t):
+    def wake(self, t: int) -> None:
         """Wakes at `t` ms of true time and asks for the time."""
         self.done("wake", t)
 
-    def take_uplink(self):
+    def take_uplink(self) -> Uplink | None:
         """Takes the oldest uplink that is held; None where none is."""
         return self.told("take_uplink", Uplink())
 
-    def view(self, index):
+    def view(self, index: int) -> View | None:
         """What the session of an index shows; None without one."""
-        return self.told("view", index, View())
+        return self.told("view", View(), index)
 
-    def file(self, index):
+    def file(self, index: int) -> bytes | None:
         """The whole file of the session of an index; None before it is whole."""
         view = self.view(index)
-        whole = view is not None and view.verdict == Verdict.COMPLETE
-        return self.copied("file", view.file_length, index, 0) if whole else None
+        return self.copied("file", view.file_length, index, 0) if view and view.verdict == Verdict.COMPLETE else None
 
-    def running(self):
+    def running(self) -> int:
         """The version of the firmware that runs."""
         version = U32()
         self.done("running", ctypes.byref(version))
         return version.value
 
-    def save(self):
+    def save(self) -> bytes:
         """What the device knows; it holds the keys of its groups."""
         return self.copied("save", SAVED_DEVICE)
 
-    def firmware(self, is_next):
+    def firmware(self, is_next: bool) -> bytes:
         """The image file that was received to run next, or else the one that runs; empty where there is none."""
         return self.copied("firmware", self.area, is_next, 0)
 
@@ -597,19 +609,21 @@ class Server(Object):
 
     kind = "server"
 
-    def __init__(self, plan, devices, image, library=None):
+    def __init__(self, plan: Plan, devices: Iterable[PlanDevice | bytes], image: bytes,
+                 library: Library | Path | None = None) -> None:
         super().__init__(library)
         self.made("new", plan, devices, image)
 
     @classmethod
-    def restore(cls, plan, devices, image, saved, library=None):
+    def restore(cls, plan: Plan, devices: Iterable[PlanDevice | bytes], image: bytes, saved: bytes,
+                library: Library | Path | None = None) -> Self:
         """The server of this plan, devices and image that saved these bytes."""
         server = cls.__new__(cls)
         Object.__init__(server, library)
         server.made("restore", plan, devices, image, *held(saved))
         return server
 
-    def made(self, name, plan, devices, image, *words):
+    def made(self, name: str, plan: Plan, devices: Iterable[PlanDevice | bytes], image: bytes, *words: Any) -> None:
         told = [device if isinstance(device, PlanDevice) else PlanDevice(key=device) for device in devices]
         listed, field = (PlanDevice * max(1, len(told)))(*told), U8()
         try:
@@ -617,34 +631,34 @@ class Server(Object):
         except OutOfRange:
             raise WrongField(field.value) from None
 
-    def next_fragment(self):
+    def next_fragment(self) -> Down | None:
         """The next fragment to all devices; None where all were sent."""
         return self.told("next_fragment", Down())
 
-    def status_all(self):
+    def status_all(self) -> Down | None:
         """FragSessionStatusReq to all devices, answered by those that miss a fragment."""
         return self.told("status_all", Down())
 
-    def ask(self, dev):
+    def ask(self, dev: int) -> Down | None:
         """What the server asks of a device now; None where it is updated or refused."""
-        return self.told("ask", dev, Down())
+        return self.told("ask", Down(), dev)
 
-    def uplink(self, dev, port, payload, t):
+    def uplink(self, dev: int, port: int, payload: bytes, t: int) -> Down | None:
         """Takes an uplink that came at `t` ms of GPS time; the answer to send, or None."""
-        return self.told("uplink", dev, port, *held(payload), t, Down())
+        return self.told("uplink", Down(), dev, port, *held(payload), t)
 
-    def frame(self, down):
+    def frame(self, down: Down) -> bytes | None:
         """A payload to the group as its multicast frame; None where it has none."""
         return self.copied("frame", MAX_FRAME, ctypes.byref(down)) or None
 
-    def last_status(self, dev):
+    def last_status(self, dev: int) -> Status | None:
         """What a device told last of the campaign's session; None where it told nothing."""
-        return self.told("last_status", dev, Status())
+        return self.told("last_status", Status(), dev)
 
-    def ledger(self, dev):
+    def ledger(self, dev: int) -> Stage:
         """Where a device stands."""
-        return self.told("ledger", dev, Stage())
+        return self.told("ledger", Stage(), dev) or Stage()
 
-    def save(self):
+    def save(self) -> bytes:
         """What the server knows, to be kept before the payload of a call goes out. There is no key among it."""
         return self.copied("save", SAVED_SERVER)
