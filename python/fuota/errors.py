@@ -7,3 +7,11 @@ class Wrong(ValueError):
 
 class Failed(Exception):
     """Something outside did not do what was asked of it."""
+
+
+def plain(why: BaseException) -> str:
+    """What went wrong in the system's words, without its number."""
+    inner = getattr(why, "reason", None)
+    if isinstance(inner, BaseException):
+        return plain(inner)
+    return (why.strerror if isinstance(why, OSError) else None) or str(why)

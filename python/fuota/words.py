@@ -5,7 +5,7 @@ import re
 from collections.abc import Callable
 
 from . import __version__
-from .errors import Failed, Wrong
+from .errors import Failed, Wrong, plain
 
 DONE, FAULT, WRONG = 0, 1, 2
 
@@ -18,10 +18,11 @@ def parser_of(name: str, text: str, statuses: str) -> argparse.ArgumentParser:
     return parser
 
 
-def add_common(parser: argparse.ArgumentParser) -> None:
-    """Adds the words that each command takes."""
+def add_common(parser: argparse.ArgumentParser, is_subcommand: bool = False) -> None:
+    """Adds the words that each command takes; those of a subcommand may stand before it and after it."""
     parser.add_argument("--version", action="version", version=f"fuota {__version__}")
-    parser.add_argument("--verbose", action="store_true", help="says on standard error what is done")
+    parser.add_argument("--verbose", action="store_true", default=argparse.SUPPRESS if is_subcommand else False,
+                        help="says on standard error what is done")
 
 
 def ended(name: str, work: Callable[[argparse.Namespace], int], asked: argparse.Namespace) -> int:
@@ -41,8 +42,7 @@ def ended(name: str, work: Callable[[argparse.Namespace], int], asked: argparse.
 
 def fault_of(why: OSError) -> str:
     """What the system says of a file, with the file first."""
-    said = why.strerror or str(why)
-    return said if why.filename is None else f"{why.filename}: {said}"
+    return plain(why) if why.filename is None else f"{why.filename}: {plain(why)}"
 
 
 def whole(lowest: int, highest: int) -> Callable[[str], int]:

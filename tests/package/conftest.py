@@ -11,10 +11,12 @@ import pytest
 import common
 
 PYTHON = common.TOP / "python"
+FILE_DEVICE = common.TOP / "crates" / "file_device" / "out" / "file_device"
 
 
 def pytest_addoption(parser):
     parser.addoption("--program", type=pathlib.Path, help="the program fuota; else the one that was built")
+    parser.addoption("--file-device", type=pathlib.Path, help="the program file_device; else the one that was built")
     parser.addoption("--library", type=pathlib.Path, help="libfuota.so; else FUOTA_LIBRARY names it, or tools/c_library makes it")
 
 
@@ -22,6 +24,12 @@ def pytest_addoption(parser):
 def program(request):
     """The path of the program fuota."""
     return common.built_program(request.config.getoption("program"), common.BUILT)
+
+
+@pytest.fixture(scope="session")
+def file_device(request):
+    """The path of the program file_device."""
+    return common.built_program(request.config.getoption("file_device"), FILE_DEVICE)
 
 
 @pytest.fixture(scope="session")

@@ -113,6 +113,7 @@ def kills(library):
         yield found
 
 
+@pytest.mark.xdist_group("kills")
 @pytest.mark.parametrize("seed", [1, 2, 3])
 def test_kills(kills, seed):
     """The campaign that is never killed, one that is killed after each step, and six that are killed again and again."""
@@ -152,36 +153,43 @@ def ended(library):
         yield told
 
 
+@pytest.mark.xdist_group("ended")
 def test_killed_from_outside(ended):
     assert ended.killed == -signal.SIGKILL
 
 
+@pytest.mark.xdist_group("ended")
 def test_asked_to_stop(ended):
     status, said = ended.stopped
     assert status == 1 and said.endswith("fuota-campaign: stopped; it goes on when it is begun again\n")
 
 
+@pytest.mark.xdist_group("ended")
 def test_two_at_once(ended):
     assert ended.beside == (2, "fuota-campaign: state: another fuota-campaign works on it\n")
 
 
+@pytest.mark.xdist_group("ended")
 def test_after_both(ended):
     is_well(ended.played, ended.status)
     assert [device.device.file(1) for device in ended.played.fleet.devices.values()] == [IMAGE] * 3
     assert [device.device.view(0) for device in ended.played.fleet.devices.values()] == [None] * 3
 
 
+@pytest.mark.xdist_group("ended")
 def test_lines(ended):
     assert re.search(r"^2031-05-06 22:\d\d:\d\d UTC: .*fragments \d+ of 26", ended.said, re.M)
     assert ended.said.endswith(": updated 3; fragments 26 of 26\n")
 
 
+@pytest.mark.xdist_group("ended")
 def test_once_all_are_updated(ended, library):
     before, sent = (ended.played.folder / "state" / "state").read_bytes(), ended.played.sent
     assert process_life(ended.played, library)[0] == 0
     assert (ended.played.sent, (ended.played.folder / "state" / "state").read_bytes()) == (sent, before)
 
 
+@pytest.mark.xdist_group("ended")
 def test_status(ended, call):
     """The table and the picture of an ended campaign."""
     done = call("fuota-campaign", "status", "state", "--picture", "picture.svg", folder=ended.played.folder)
@@ -358,6 +366,7 @@ def broken(library):
         is_well(played, process_life(played, library)[0])
 
 
+@pytest.mark.xdist_group("broken")
 @pytest.mark.parametrize("change, message", [
     (in_state(lambda saved: saved[:7] + bytes([saved[7] ^ 1]) + saved[8:]), BROKEN),
     (in_state(lambda saved: saved[:-1]), BROKEN),
@@ -476,8 +485,8 @@ def test_rehearsals(call, place, library):
     campaign."""
     folder = laid_out(place / "rehearsed")
     runs = []
-    for name in ("once", "twice"):
-        done = call("fuota-campaign", "rehearse", "--verbose", "plan.toml", name, "--loss", "20", "--library", library, folder=folder)
+    for name, words in (("once", ["rehearse", "--verbose"]), ("twice", ["--verbose", "rehearse"])):
+        done = call("fuota-campaign", *words, "plan.toml", name, "--loss", "20", "--library", library, folder=folder)
         assert done.status == 0
         journal = (folder / name / "journal").read_text()
         assert done.message == "".join(f"fuota-campaign: {line}\n" for line in journal.splitlines())

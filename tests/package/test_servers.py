@@ -296,13 +296,15 @@ def test_no_access(tmp_path, library):
 @over_mqtt
 def test_no_broker(tmp_path, library):
     """A broker that is not there does not end it."""
-    folder = laid_out(tmp_path / "alone", PLAN + THINGS.format(free_port(), ""))
+    port = free_port()
+    folder = laid_out(tmp_path / "alone", PLAN + THINGS.format(port, ""))
     tool = subprocess.Popen(run_words(library), cwd=folder, stdout=subprocess.DEVNULL, stderr=subprocess.PIPE, text=True)
     time.sleep(2.5)
     assert tool.poll() is None
     tool.terminate()
     said = tool.communicate(timeout=30)[1]
-    assert (tool.returncode, said) == (1, "fuota-campaign: stopped; it goes on when it is begun again\n")
+    assert (tool.returncode, said) == (1, f"fuota-campaign: no connection to 127.0.0.1:{port}: Connection refused\n"
+                                          "fuota-campaign: stopped; it goes on when it is begun again\n")
 
 
 # ---- User, password and TLS
@@ -452,7 +454,7 @@ def test_a_count_beyond_the_groups(stub):
 
 
 def test_nobody_listens():
-    assert post(chirpstack_at())[0] == "Lost"
+    assert post(chirpstack_at()) == ("Lost", "http://HOST/api/multicast-groups/g/queue: Connection refused")
 
 
 def test_no_token(tmp_path):

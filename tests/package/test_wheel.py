@@ -9,6 +9,8 @@ import pytest
 import fuota
 from common import TOP
 
+pytestmark = pytest.mark.xdist_group("wheel")
+
 
 @pytest.fixture(scope="module")
 def installed(library, tmp_path_factory):

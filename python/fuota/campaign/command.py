@@ -52,10 +52,10 @@ def parser() -> argparse.ArgumentParser:
     whole = words.parser_of(NAME, TEXT, STATUSES)
     ways = whole.add_subparsers(metavar="COMMAND", required=True)
 
-    def way(name: str, work: object, text: str) -> argparse.ArgumentParser:
+    def way(name: str, work: Callable[[argparse.Namespace], int], text: str) -> argparse.ArgumentParser:
         made = ways.add_parser(name, help=text, description=text, epilog=STATUSES, allow_abbrev=False,
                                formatter_class=argparse.RawDescriptionHelpFormatter)
-        words.add_common(made)
+        words.add_common(made, is_subcommand=True)
         made.set_defaults(work=work)
         return made
 

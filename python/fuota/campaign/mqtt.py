@@ -9,9 +9,9 @@ from dataclasses import dataclass
 from typing import Any
 
 from .. import fields, lns
-from ..errors import Wrong
+from ..errors import Wrong, plain
 from ..fields import Place, file, member, text, truth
-from .carrier import STRANGE, Carrier, Lost, Refusing, Uplink, pass_over
+from .carrier import LOG, STRANGE, Carrier, Lost, Refusing, Uplink, pass_over
 from .plan import Device, Group
 
 # Seconds: until a payload counts as lost, between two tries to connect, of silence until the broker is asked whether it is there.
@@ -76,7 +76,7 @@ class Mqtt(Carrier):
         self.heard: list[Uplink] = []
         # The numbers of messages that the broker took.
         self.taken: set[int] = set()
-        self.is_connected, self.answer, self.begin_at = False, 0, 0.0
+        self.is_connected, self.answer, self.begin_at, self.fault = False, 0, 0.0, ""
         self.client = self.made()
 
     def made(self) -> Any:
@@ -91,6 +91,7 @@ class Mqtt(Carrier):
     def connected(self, answer: Any) -> None:
         self.answer, self.is_connected = answer, answer == 0
         if self.is_connected:
+            self.fault = ""
             self.client.subscribe(self.server.topic, 1)
 
     def take(self, message: bytes) -> None:
@@ -118,9 +119,12 @@ class Mqtt(Carrier):
         self.begin_at = time.monotonic() + AGAIN
         try:
             self.client.connect(self.server.host, self.server.port, KEEPALIVE)
-        except (OSError, ValueError):
-            # (it is tried again)
-            return
+        except (OSError, ValueError) as why:
+            # (it is tried again, and said once)
+            said = f"no connection to {self.server.host}:{self.server.port}: {plain(why)}"
+            if said != self.fault:
+                LOG.warning("%s", said)
+            self.fault = said
 
     def wait(self, until: float) -> list[Uplink]:
         deadline = time.monotonic() + max(0, until - self.now()) / 1000

@@ -7,7 +7,7 @@ from dataclasses import dataclass
 from functools import cached_property
 from urllib.parse import urlsplit
 
-from ..errors import Wrong
+from ..errors import Wrong, plain
 from ..fields import file, member, url, word
 from .server import Lost, Members, Payload, Publish, Refusing, Server, Uplink, base64_of, member_of, reaches, time_of, uplink_of
 
@@ -90,7 +90,7 @@ class ChirpStack(Server):
             said = f"{address}: {why.code} {why.read(200).decode(errors='replace').strip()}"
             raise (Refusing if 400 <= why.code < 500 and why.code not in (408, 429) else Lost)(said) from None
         except (OSError, ValueError, AttributeError) as why:
-            raise Lost(f"{address}: {why}") from None
+            raise Lost(f"{address}: {plain(why)}") from None
         if not isinstance(given, int):
             return None
         if given not in counts:
