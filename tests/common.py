@@ -6,11 +6,12 @@ import os
 import pathlib
 import subprocess
 import sys
+import tomllib
 import types
 
 TOP = pathlib.Path(__file__).resolve().parent.parent
-# (the packages of tools/, for all tests)
-sys.path.insert(0, str(TOP / "tools"))
+# (the packages of python/ and tools/, for all tests)
+sys.path[:0] = [str(TOP / "python"), str(TOP / "tools")]
 CRATE = TOP / "crates" / "fuota"
 BUILT = CRATE / "out" / "fuota"
 
@@ -30,8 +31,11 @@ def add_program(words: argparse.ArgumentParser, built: pathlib.Path = BUILT) -> 
 
 def program_of(words: argparse.Namespace) -> pathlib.Path:
     """The path of the program that is to be tried."""
-    named: pathlib.Path | None = words.program
-    built: pathlib.Path = words.built
+    return built_program(words.program, words.built)
+
+
+def built_program(named: pathlib.Path | None, built: pathlib.Path) -> pathlib.Path:
+    """The path of the program that is named, or of the one that was built."""
     if named:
         if not named.is_file():
             sys.exit(f"{named} is no program")
@@ -56,6 +60,17 @@ def script_of(path: pathlib.Path) -> types.ModuleType:
     sys.modules[path.name] = module
     loader.exec_module(module)
     return module
+
+
+def commands_in(folder: pathlib.Path, package: pathlib.Path = TOP / "python") -> pathlib.Path:
+    """Puts the commands of the Python package into a new folder, as an installation does."""
+    folder.mkdir()
+    for name, place in tomllib.loads((package / "pyproject.toml").read_text())["project"]["scripts"].items():
+        module, function = place.split(":")
+        words = f"PYTHONPATH='{package}' exec '{sys.executable}' -c 'import sys; from {module} import {function}; sys.exit({function}())'"
+        (folder / name).write_text(f'#!/bin/sh\n{words} "$@"\n')
+        (folder / name).chmod(0o755)
+    return folder
 
 
 class Tries:

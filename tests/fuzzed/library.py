@@ -1,12 +1,9 @@
 """The library for C as a case calls it: what a call gives, or how it is answered, as plain values that can be compared."""
 import collections
 import importlib
-import pathlib
-import sys
 from collections.abc import Callable
 from typing import Any
 
-sys.path.insert(0, str(pathlib.Path(__file__).resolve().parent.parent.parent / "c"))
 # (its classes are made at run time, by ctypes)
 fuota: Any = importlib.import_module("fuota")
 MAX_MOMENT = 4_294_967_295_999

@@ -3,3 +3,4 @@
 It shares nothing with the program's code. `tests/model/fuota` is the executable; a reader begins with `commands.py` and
 `session.py`, goes on to `device.py` and `server.py`, and ends with `world.py` and `program.py`.
 """
+from __future__ import annotations

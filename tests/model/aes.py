@@ -5,11 +5,10 @@ with the numbers of MixColumns are worked out once, by the field's own multiplic
 """
 import functools
 
-
 # ---- FIPS 197, 4: the field GF(2^8)
 
 
-def times(a, b):
+def times(a: int, b: int) -> int:
     """The product of two bytes modulo x^8 + x^4 + x^3 + x + 1 (4.2)."""
     product = 0
     while a:
@@ -20,12 +19,12 @@ def times(a, b):
     return product
 
 
-def inverse(b):
+def inverse(b: int) -> int:
     """The byte whose product with b is 1; 0 for 0 (5.1.1)."""
     return next((x for x in range(256) if times(b, x) == 1), 0)
 
 
-def substituted(b):
+def substituted(b: int) -> int:
     """SubBytes of one byte: the affine map of its inverse (5.1.1)."""
     x, result = inverse(b), 0
     for i in range(8):
@@ -35,19 +34,19 @@ def substituted(b):
 
 
 @functools.lru_cache(maxsize=None)
-def substitution():
+def substitution() -> bytes:
     """SubBytes for each byte."""
     return bytes(substituted(b) for b in range(256))
 
 
 @functools.lru_cache(maxsize=None)
-def inverse_substitution():
+def inverse_substitution() -> bytes:
     """InvSubBytes for each byte (5.3.2)."""
     return bytes(substitution().index(b) for b in range(256))
 
 
 @functools.lru_cache(maxsize=None)
-def products(factor):
+def products(factor: int) -> bytes:
     """The product of each byte with a factor."""
     return bytes(times(factor, b) for b in range(256))
 
@@ -56,7 +55,7 @@ def products(factor):
 
 
 @functools.lru_cache(maxsize=1024)
-def round_keys(key):
+def round_keys(key: bytes) -> list[bytes]:
     """The eleven keys of the rounds."""
     box, words = substitution(), [key[i:i + 4] for i in range(0, 16, 4)]
     rcon = 1
@@ -73,17 +72,17 @@ def round_keys(key):
 # ---- FIPS 197, 5.1 and 5.3: the cipher and its inverse
 
 
-def added(a, b):
+def added(a: bytes, b: bytes) -> bytes:
     """AddRoundKey, and the sum of any two blocks."""
     return bytes(x ^ y for x, y in zip(a, b))
 
 
-def rows_shifted(state, step):
+def rows_shifted(state: bytes, step: int) -> bytes:
     """ShiftRows: row r moves left by r places; by -r where step is -1."""
     return bytes(state[r + 4 * ((c + step * r) % 4)] for c in range(4) for r in range(4))
 
 
-def columns_mixed(state, factors):
+def columns_mixed(state: bytes, factors: tuple[int, int, int, int]) -> bytes:
     """MixColumns: each byte is the sum of its column's bytes, from its row on, times these factors."""
     tables = [products(factor) for factor in factors]
     return bytes(
@@ -97,7 +96,7 @@ def columns_mixed(state, factors):
 
 
 @functools.lru_cache(maxsize=2**18)
-def encrypt(key, block):
+def encrypt(key: bytes, block: bytes) -> bytes:
     """The encryption of a block."""
     keys, state = round_keys(key), added(block, key)
     for n in range(1, 11):
@@ -108,7 +107,7 @@ def encrypt(key, block):
     return state
 
 
-def decrypt(key, block):
+def decrypt(key: bytes, block: bytes) -> bytes:
     """The block whose encryption this is."""
     keys, state = round_keys(key), block
     for n in range(10, 0, -1):
@@ -122,7 +121,7 @@ def decrypt(key, block):
 # ---- RFC 4493
 
 
-def doubled(block):
+def doubled(block: bytes) -> bytes:
     """A block shifted left by one bit, and 87 added where its top bit was 1 (2.3)."""
     number = int.from_bytes(block, "big") << 1
     if number >> 128:
@@ -130,7 +129,7 @@ def doubled(block):
     return number.to_bytes(16, "big")
 
 
-def cmac(key, message):
+def cmac(key: bytes, message: bytes) -> bytes:
     """T, the code of a message (2.4)."""
     k1 = doubled(encrypt(key, bytes(16)))
     before = max(0, len(message) - 1) // 16

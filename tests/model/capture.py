@@ -6,6 +6,7 @@ surrogates; and it has other limits. What stands instead is said at each functio
 import json
 import math
 from dataclasses import dataclass
+from typing import Any
 
 from .commands import DOWN, FRAGMENTS, UP
 from .decode import payload_text
@@ -20,11 +21,11 @@ LARGEST, SMALLEST = 2**64 - 1, -(2**63)
 class Members:
     """An object: for each name the last member of it, and how many arrays and objects stand in each other in it."""
 
-    last: dict
+    last: dict[str, Any]
     depth: int
 
 
-def float_of(digits):
+def float_of(digits: str) -> float:
     """A number beyond a float is none."""
     value = float(digits)
     if math.isinf(value):
@@ -32,7 +33,7 @@ def float_of(digits):
     return value
 
 
-def int_of(digits):
+def int_of(digits: str) -> float:
     """A whole number; -0, and one outside -2^63 to 2^64 - 1, is a float."""
     value = int(digits)
     if digits == "-0" or not SMALLEST <= value <= LARGEST:
@@ -40,12 +41,12 @@ def int_of(digits):
     return value
 
 
-def constant_of(word):
+def constant_of(word: str) -> Any:
     """NaN and infinities are no numbers of JSON."""
     raise ValueError(word)
 
 
-def depth_of(value):
+def depth_of(value: Any) -> int:
     """How deep a value nests; a lone surrogate in a text, which no UTF-8 has, is refused."""
     if isinstance(value, str):
         value.encode("utf-8")
@@ -57,14 +58,14 @@ def depth_of(value):
     return 0
 
 
-def members_of(pairs):
+def members_of(pairs: Any) -> Members:
     """An object of its members, those included that a later one of the same name hides."""
     for name, _ in pairs:
         depth_of(name)
     return Members(dict(pairs), 1 + max((depth_of(value) for _, value in pairs), default=0))
 
 
-def object_of(line):
+def object_of(line: str) -> Any:
     """The members of the object that a line is; None where it is none, or nests deeper than 127."""
     try:
         value = json.loads(
@@ -90,7 +91,7 @@ class Entry:
     payload: bytes
 
 
-def entry_of(number, line):
+def entry_of(number: int, line: str) -> Entry:
     """The entry of a line, or Refused: first for its syntax, then for its port, then for its length."""
     if is_beyond(number, line):
         raise Refused(number, "limit")
@@ -106,7 +107,7 @@ def entry_of(number, line):
     return Entry(port, direction, payload)
 
 
-def capture(file):
+def capture(file: bytes) -> str:
     """The text of a capture."""
     rows, lines = headed_lines("capture", file)
     device, text = device_for(rows), ""

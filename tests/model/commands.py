@@ -4,6 +4,7 @@ A row has the ports, the direction, the identifier and the parts of the body, as
 that no field names are reserved: free in reading, 0 in writing. All numbers are little-endian.
 """
 from dataclasses import dataclass, field
+from typing import Any
 
 from .words import MAX_PAYLOAD
 
@@ -36,7 +37,7 @@ class Packed:
     """Fields that share a number of so many bytes."""
 
     width: int
-    bits: tuple
+    bits: tuple[Bits, ...]
 
 
 @dataclass(frozen=True)
@@ -72,15 +73,18 @@ class GroupList:
     mask: str
 
 
+Part = Number | Packed | Block | Rest | Where | GroupList
+
+
 @dataclass(frozen=True)
 class Row:
     """A command of the table."""
 
     name: str
-    ports: tuple
+    ports: tuple[int, ...]
     direction: str
     cid: int
-    parts: tuple = ()
+    parts: tuple[Part, ...] = ()
 
 
 @dataclass(frozen=True)
@@ -88,9 +92,9 @@ class Command:
     """A command with the values of its fields."""
 
     name: str
-    fields: dict = field(default_factory=dict)
+    fields: dict[str, Any] = field(default_factory=dict)
 
-    def __getitem__(self, name):
+    def __getitem__(self, name: str) -> Any:
         return self.fields[name]
 
 
@@ -102,22 +106,22 @@ class Refusal:
     why: str
 
 
-def down(ports, cid, name, *parts):
+def down(ports: tuple[int, ...], cid: int, name: str, *parts: Part) -> Row:
     """A row of a command that goes down."""
     return Row(name, ports, DOWN, cid, parts)
 
 
-def up(ports, cid, name, *parts):
+def up(ports: tuple[int, ...], cid: int, name: str, *parts: Part) -> Row:
     """A row of a command that comes up."""
     return Row(name, ports, UP, cid, parts)
 
 
-def number(width, name):
+def number(width: int, name: str) -> Number:
     """A field of so many bytes."""
     return Number(name, width)
 
 
-def packed(width, *fields):
+def packed(width: int, *fields: tuple[str, int, int]) -> Packed:
     """Fields that share so many bytes, each as (name, high, low)."""
     return Packed(width, tuple(Bits(*bits) for bits in fields))
 
@@ -176,7 +180,7 @@ TABLE = (
 ROWS = {row.name: row for row in TABLE}
 
 
-def row_at(port, direction, cid):
+def row_at(port: int, direction: str, cid: int) -> Row | None:
     """The row of an identifier, if the table has it for that port and direction."""
     for row in TABLE:
         if port in row.ports and row.direction == direction and row.cid == cid:
@@ -191,11 +195,11 @@ class Short(Exception):
 class Reader:
     """The bytes of a payload, from a place on."""
 
-    def __init__(self, data, at):
+    def __init__(self, data: bytes, at: int) -> None:
         self.data = data
         self.at = at
 
-    def take(self, size):
+    def take(self, size: int) -> bytes:
         """The next so many bytes."""
         if self.at + size > len(self.data):
             raise Short
@@ -203,17 +207,17 @@ class Reader:
         self.at += size
         return piece
 
-    def number(self, width, signed=False):
+    def number(self, width: int, signed: bool = False) -> int:
         """The next number."""
         return int.from_bytes(self.take(width), "little", signed=signed)
 
 
-def bits_of(value, bits):
+def bits_of(value: int, bits: Bits) -> int:
     """What stands in the bits of a number."""
     return value >> bits.low & (1 << bits.high + 1 - bits.low) - 1
 
 
-def read_part(part, reader, fields):
+def read_part(part: Part, reader: Reader, fields: dict[str, Any]) -> None:
     """Puts the fields of a part among those that were read before it."""
     if isinstance(part, Number):
         fields[part.name] = reader.number(part.width, part.signed)
@@ -231,18 +235,20 @@ def read_part(part, reader, fields):
         fields[part.name] = tuple((reader.number(1) & 3, reader.number(4)) for _ in range(count))
 
 
-def read_payload(port, direction, data):
+def read_payload(port: int, direction: str, data: bytes) -> Refusal | list[Command]:
     """The commands of a payload, or the Refusal where reading it stops."""
     if not FIRST_PORT <= port <= LAST_PORT:
         return Refusal(0, "port")
     if len(data) > MAX_PAYLOAD:
         return Refusal(MAX_PAYLOAD, "long")
-    commands, at = [], 0
+    commands: list[Command] = []
+    at = 0
     while at < len(data):
         row = row_at(port, direction, data[at])
         if row is None:
             return Refusal(at, "unknown")
-        reader, fields = Reader(data, at + 1), {}
+        fields: dict[str, Any] = {}
+        reader = Reader(data, at + 1)
         try:
             for part in row.parts:
                 read_part(part, reader, fields)
@@ -253,26 +259,26 @@ def read_payload(port, direction, data):
     return commands
 
 
-def part_bytes(part, fields):
+def part_bytes(part: Part, fields: dict[str, Any]) -> bytes:
     """The bytes of a part, with reserved bits 0."""
     if isinstance(part, Number):
-        return fields[part.name].to_bytes(part.width, "little", signed=part.signed)
+        return int(fields[part.name]).to_bytes(part.width, "little", signed=part.signed)
     if isinstance(part, Packed):
         value = sum(int(fields[bits.name]) << bits.low for bits in part.bits)
         return value.to_bytes(part.width, "little")
     if isinstance(part, (Block, Rest)):
-        return fields[part.name]
+        return bytes(fields[part.name])
     if isinstance(part, Where):
-        return b"" if fields[part.name] is None else fields[part.name].to_bytes(part.width, "little")
+        return b"" if fields[part.name] is None else int(fields[part.name]).to_bytes(part.width, "little")
     return b"".join(bytes([ident]) + addr.to_bytes(4, "little") for ident, addr in fields[part.name])
 
 
-def spelling(command):
+def spelling(command: Command) -> bytes:
     """The bytes of a command."""
     row = ROWS[command.name]
     return bytes([row.cid]) + b"".join(part_bytes(part, command.fields) for part in row.parts)
 
 
-def make(name, **fields):
+def make(name: str, **fields: Any) -> Command:
     """A command by its name."""
     return Command(name, fields)

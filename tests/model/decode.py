@@ -7,7 +7,7 @@ from .texts import command_text
 from .words import MAX_PAYLOAD, Refused, bytes_of_hex, is_beyond, lines_of
 
 
-def payload_text(port, direction, data):
+def payload_text(port: int, direction: str, data: bytes) -> str:
     """A line for each command of a payload, or the refusal alone."""
     commands = read_payload(port, direction, data)
     if isinstance(commands, Refusal):
@@ -15,7 +15,7 @@ def payload_text(port, direction, data):
     return "".join(command_text(command) + "\n" for command in commands)
 
 
-def payload_of(number, line):
+def payload_of(number: int, line: str) -> bytes:
     """The payload of a line of hex digits, or Refused."""
     if is_beyond(number, line):
         raise Refused(number, "limit")
@@ -27,7 +27,7 @@ def payload_of(number, line):
     return data
 
 
-def decode(port, direction, file):
+def decode(port: int, direction: str, file: bytes) -> str:
     """The text of a file of payloads."""
     text = ""
     for number, line in enumerate(lines_of(file), 1):

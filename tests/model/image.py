@@ -9,7 +9,7 @@ MAX_IMAGE = 262_144
 NONE, CORRUPT, INCOMPATIBLE, VALID = "none", "corrupt", "incompatible", "valid"
 
 
-def number_at(data, at):
+def number_at(data: bytes, at: int) -> int:
     """The little-endian number of four bytes at a place."""
     return int.from_bytes(data[at:at + 4], "little")
 
@@ -26,12 +26,12 @@ class Head:
     digest: bytes
     size: int
 
-    def is_for(self, hardware):
+    def is_for(self, hardware: int) -> bool:
         """It is an image for this hardware version."""
         return self.lowest <= hardware <= self.highest
 
 
-def head_of(file):
+def head_of(file: bytes) -> Head:
     """The head of a file as its format has it; a format that there is not is read as the first."""
     form = file[4]
     more = 4 if form == 2 else 0
@@ -46,7 +46,7 @@ def head_of(file):
     )
 
 
-def image_of(file):
+def image_of(file: bytes) -> Head | None:
     """The head of an image file; None where the bytes are none."""
     if not 49 <= len(file) <= MAX_IMAGE or file[:4] != b"FUIM" or file[4] not in (1, 2):
         return None
@@ -62,14 +62,14 @@ def image_of(file):
     return head if is_image else None
 
 
-def make_image(hardware, firmware, body):
+def make_image(hardware: int, firmware: int, body: bytes) -> bytes:
     """An image file of format 1."""
     numbers = (hardware, firmware, len(body))
     head = b"FUIM\x01" + b"".join(n.to_bytes(4, "little") for n in numbers)
     return head + hashlib.sha256(body).digest() + body
 
 
-def state_of(file, hardware, formats):
+def state_of(file: bytes, hardware: int, formats: int) -> tuple[str, int | None]:
     """What a file is to a device that knows so many formats: its state, and the firmware version of a valid one."""
     head = image_of(file)
     if head is None or head.form > formats:
@@ -84,24 +84,25 @@ class Slots:
     hardware: int
     formats: int
     running: int = 0
-    next: tuple = (NONE, None)
+    next: tuple[str, int | None] = (NONE, None)
     next_file: bytes = b""
 
-    def offer(self, file):
+    def offer(self, file: bytes) -> None:
         """A whole file becomes next, whatever next was."""
         self.next, self.next_file = state_of(file, self.hardware, self.formats), file
 
-    def clear(self):
+    def clear(self) -> None:
         """Next is none."""
         self.next, self.next_file = (NONE, None), b""
 
-    def swap(self):
+    def swap(self) -> None:
         """A valid next becomes what runs, and any other stays."""
-        if self.next[0] == VALID:
-            self.running = self.next[1]
+        state, version = self.next
+        if state == VALID and version is not None:
+            self.running = version
             self.clear()
 
-    def delete(self, version):
+    def delete(self, version: int) -> int:
         """Deletes a valid next of this version; else bit 0 without a valid one, bit 1 where it is another."""
         if self.next[0] != VALID:
             return 1
@@ -110,7 +111,7 @@ class Slots:
         self.clear()
         return 0
 
-    def migrate(self):
+    def migrate(self) -> None:
         """Both formats are known from now on, and next is read again."""
         self.formats = 2
         if self.next[0] != NONE:

@@ -23,17 +23,17 @@ class Owner:
 class Pair:
     """Two campaigns at a moment, and whose each device of the script is."""
 
-    def __init__(self, image_a, image_b):
+    def __init__(self, image_a: bytes, image_b: bytes) -> None:
         self.sides = {"a": World(image_a), "b": World(image_b)}
-        self.owners = []
+        self.owners: list[Owner] = []
 
-    def other(self, campaign):
+    def other(self, campaign: str) -> World:
         """The other campaign."""
         return self.sides["b" if campaign == "a" else "a"]
 
     # ---- causes
 
-    def is_in_order(self, form):
+    def is_in_order(self, form: Form) -> bool:
         """The plan of a comes before that of b, both before the devices, and events where both have devices."""
         a, b = self.sides["a"], self.sides["b"]
         if is_event_or_end(form):
@@ -44,24 +44,24 @@ class Pair:
             return a.is_in_order(form) and b.section == "image"
         return b.is_in_order(form) and a.section in ("group", "device")
 
-    def is_apart(self, form):
+    def is_apart(self, form: Form) -> bool:
         """The index, group and address of b are others than those of a."""
         plan = self.sides["a"].server.plan
         if form.campaign == "b" and form.name == "image":
-            return form["index"] != plan.index
+            return bool(form["index"] != plan.index)
         if form.campaign == "b" and form.name == "group" and plan.group is not None:
-            return form["id"] != plan.ident and form["addr"] != plan.group.addr
+            return bool(form["id"] != plan.ident and form["addr"] != plan.group.addr)
         return True
 
-    def is_next(self, form):
+    def is_next(self, form: Form) -> bool:
         """An ID is the next over both."""
         return form.name != "device" or form["id"] == len(self.owners) + 1
 
-    def names_device(self, form):
+    def names_device(self, form: Form) -> bool:
         """The device is there."""
         return form.name == "device" or "device" not in form.fields or numbered(self.owners, form["device"]) is not None
 
-    def cause_of(self, form):
+    def cause_of(self, form: Form) -> str | None:
         """The first cause for which a form is refused: what concerns both, then what concerns the campaign."""
         if not self.is_in_order(form):
             return "order"
@@ -80,26 +80,26 @@ class Pair:
 
     # ---- whose a form is
 
-    def crosses(self, form):
+    def crosses(self, form: Form) -> bool:
         """A payload of one campaign comes to a device of the other."""
         return form.name in ("down", "air") and self.owners[form["device"] - 1].campaign != form.campaign
 
-    def may_cross(self, form):
+    def may_cross(self, form: Form) -> bool:
         """The payload was sent to all, and goes out as a frame where it goes by air."""
-        sent = numbered(self.sides[form.campaign].sent, form["number"])
+        sent = numbered(self.sides[form.named].sent, form["number"])
         return sent is not None and sent.receiver is None and (form.name == "down" or sent.down.is_to_group)
 
-    def own_form(self, form):
+    def own_form(self, form: Form) -> tuple[str, Form]:
         """The campaign whose a form is, and what it says there: its devices have numbers of their own."""
         if form.name == "device":
-            number = len(self.sides[form.campaign].devices) + 1
-            return form.campaign, Form(form.name, {**form.fields, "id": number})
+            number = len(self.sides[form.named].devices) + 1
+            return form.named, Form(form.name, {**form.fields, "id": number})
         if "device" not in form.fields:
-            return form.campaign, form
+            return form.named, form
         owner = self.owners[form["device"] - 1]
         return owner.campaign, Form(form.name, {**form.fields, "device": owner.number})
 
-    def take(self, form, line):
+    def take(self, form: Form, line: int) -> None:
         """A form that is not refused, of the line with this number."""
         if form.name in BOTH:
             for side in self.sides.values():
@@ -112,15 +112,15 @@ class Pair:
             if form.name == "device":
                 self.owners.append(Owner(campaign, own["id"]))
 
-    def cross(self, form, line):
+    def cross(self, form: Form, line: int) -> None:
         """A payload reaches a device of the other campaign, which hears a frame as little as the payload itself."""
-        down = numbered(self.sides[form.campaign].sent, form["number"]).down
-        other = self.other(form.campaign)
+        down = self.sides[form.named].sent[form["number"] - 1].down
+        other = self.other(form.named)
         other.begin_events()
         other.reach(self.owners[form["device"] - 1].number, down, form["word"], line)
 
 
-def play_pair(image_a, image_b, script):
+def play_pair(image_a: bytes, image_b: bytes, script: bytes) -> Pair:
     """The two campaigns of a script, or Refused with the first refused line."""
     pair, lines = Pair(image_a, image_b), lines_of(script)
     for number, line in enumerate(lines, 1):
@@ -128,15 +128,15 @@ def play_pair(image_a, image_b, script):
             raise Refused(number, "limit")
         form = pair_form_of(line)
         cause = "syntax" if form is None else pair.cause_of(form)
-        if cause is not None:
-            raise Refused(number, cause)
+        if form is None or cause is not None:
+            raise Refused(number, cause or "syntax")
         pair.take(form, number)
     if any(side.section != "ended" for side in pair.sides.values()):
         raise Refused(len(lines) + 1, "syntax")
     return pair
 
 
-def pair_report_of(pair):
+def pair_report_of(pair: Pair) -> str:
     """The report of two campaigns."""
     text = "fuota report 2\n"
     for letter in LETTERS:

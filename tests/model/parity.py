@@ -5,21 +5,21 @@ standard's register of 23 bits.
 """
 import functools
 
-
-def prbs23(state):
+def prbs23(state: int) -> int:
     """One step of the register: all bits move down, and bits 0 and 5 make the new top bit."""
     return state >> 1 | ((state ^ state >> 5) & 1) << 22
 
 
-def is_power_of_two(n):
+def is_power_of_two(n: int) -> bool:
     """One bit of n is set."""
     return n > 0 and n & n - 1 == 0
 
 
-def columns_of(n, pieces):
+def columns_of(n: int, pieces: int) -> list[int]:
     """The columns of coded fragment n, floor(pieces / 2) of them; one may be drawn twice."""
     modulus = pieces + 1 if is_power_of_two(pieces) else pieces
-    state, columns = 1 + 1001 * n, []
+    columns: list[int] = []
+    state = 1 + 1001 * n
     while len(columns) < pieces // 2:
         state = prbs23(state)
         if state % modulus < pieces:
@@ -28,7 +28,7 @@ def columns_of(n, pieces):
 
 
 @functools.lru_cache(maxsize=None)
-def parity_line(n, pieces):
+def parity_line(n: int, pieces: int) -> int:
     """The line of coded fragment n."""
     line = 0
     for column in columns_of(n, pieces):
@@ -36,27 +36,27 @@ def parity_line(n, pieces):
     return line
 
 
-def line_of(number, pieces):
+def line_of(number: int, pieces: int) -> int:
     """The line of a fragment, by its number from 1 on: a piece alone, or the line of a coded fragment."""
     return 1 << number - 1 if number <= pieces else parity_line(number - pieces, pieces)
 
 
-def pieces_for(length, size):
+def pieces_for(length: int, size: int) -> int:
     """How many pieces of a size hold so many bytes."""
     return -(-length // size)
 
 
-def padding_for(length, size):
+def padding_for(length: int, size: int) -> int:
     """How many bytes the last piece lacks."""
     return pieces_for(length, size) * size - length
 
 
-def xor(a, b):
+def xor(a: bytes, b: bytes) -> bytes:
     """The XOR of two byte strings of one length."""
     return (int.from_bytes(a, "big") ^ int.from_bytes(b, "big")).to_bytes(len(a), "big")
 
 
-def fragment_of(file, size, number):
+def fragment_of(file: bytes, size: int, number: int) -> bytes:
     """The data of a fragment of a file: the XOR of the pieces in its line."""
     count = pieces_for(len(file), size)
     filled = file + bytes(padding_for(len(file), size))

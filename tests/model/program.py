@@ -4,6 +4,7 @@ The words are read as clap reads seven subcommands whose words are all required 
 """
 import os
 import sys
+from collections.abc import Callable
 
 from .capture import capture
 from .commands import DOWN, FIRST_PORT, LAST_PORT, UP
@@ -29,13 +30,13 @@ TOO_LONG, NOT_COMPLETE = 8, 9
 class Answer(Exception):
     """An answer with which a run ends before its end."""
 
-    def __init__(self, status, text):
+    def __init__(self, status: int, text: str) -> None:
         super().__init__(text)
         self.status = status
         self.text = text
 
 
-def usage():
+def usage() -> Answer:
     """The answer to words that are no form."""
     return Answer(USAGE, USAGE_TEXT)
 
@@ -43,7 +44,7 @@ def usage():
 # ---- files
 
 
-def source(name, limit):
+def source(name: str, limit: int) -> bytes:
     """The bytes of a file, which is not longer than its limit."""
     try:
         with open(os.fsencode(name), "rb") as handle:
@@ -55,7 +56,7 @@ def source(name, limit):
     return data
 
 
-def image_source(name):
+def image_source(name: str) -> bytes:
     """The bytes of an image file."""
     data = source(name, MAX_IMAGE)
     if image_of(data) is None:
@@ -63,7 +64,7 @@ def image_source(name):
     return data
 
 
-def script_source(name):
+def script_source(name: str) -> bytes:
     """The bytes of a script or of a file of payloads."""
     return source(name, MAX_SCRIPT)
 
@@ -71,7 +72,7 @@ def script_source(name):
 # ---- forms: each takes its words, and gives its text
 
 
-def ranged(word, first, last):
+def ranged(word: str, first: int, last: int) -> int:
     """A decimal in a range; other words are no form."""
     value = decimal_of(word)
     if value is None or not first <= value <= last:
@@ -79,12 +80,12 @@ def ranged(word, first, last):
     return value
 
 
-def on_campaign(image, script):
+def on_campaign(image: str, script: str) -> str:
     """The report of a campaign."""
     return report_of(play(image_source(image), script_source(script)))
 
 
-def on_recover(image, script, device):
+def on_recover(image: str, script: str, device: str) -> bytes:
     """The file of a device's session 0, or how the session stands."""
     number = ranged(device, 1, MAX_DEVICES)
     world = play(image_source(image), script_source(script))
@@ -95,12 +96,12 @@ def on_recover(image, script, device):
     return file
 
 
-def on_replay(file):
+def on_replay(file: str) -> str:
     """The text of a file of payloads, replayed."""
     return replay(script_source(file))
 
 
-def on_decode(port, direction, file):
+def on_decode(port: str, direction: str, file: str) -> str:
     """The text of a file of payloads, decoded."""
     number = ranged(port, FIRST_PORT, LAST_PORT)
     if direction not in (DOWN, UP):
@@ -108,23 +109,23 @@ def on_decode(port, direction, file):
     return decode(number, direction, script_source(file))
 
 
-def on_generate(seed):
+def on_generate(seed: str) -> str:
     """The summary of the campaign of a seed."""
     return generate(ranged(seed, 0, 2**32 - 1))
 
 
-def on_capture(file):
+def on_capture(file: str) -> str:
     """The text of a capture."""
     return capture(script_source(file))
 
 
-def on_campaigns(image_a, image_b, script):
+def on_campaigns(image_a: str, image_b: str, script: str) -> str:
     """The report of two campaigns."""
     return pair_report_of(play_pair(image_source(image_a), image_source(image_b), script_source(script)))
 
 
 # each form with the number of its words
-FORMS = {
+FORMS: dict[str, tuple[Callable[..., str | bytes], int]] = {
     "campaign": (on_campaign, 2),
     "recover": (on_recover, 3),
     "replay": (on_replay, 1),
@@ -135,7 +136,7 @@ FORMS = {
 }
 
 
-def words_of_form(words):
+def words_of_form(words: list[str]) -> list[str]:
     """The words after the form: the first `--` is dropped, and only those after it may begin with a dash."""
     front, back = words, []
     if "--" in words:
@@ -146,7 +147,7 @@ def words_of_form(words):
     return front + back
 
 
-def is_text(word):
+def is_text(word: str) -> bool:
     """A word is UTF-8."""
     try:
         os.fsencode(word).decode("utf-8")
@@ -155,7 +156,7 @@ def is_text(word):
     return True
 
 
-def answer_text(words):
+def answer_text(words: list[str]) -> bytes | str:
     """The text that the words ask for."""
     if not words or words[0] not in FORMS or not all(is_text(word) for word in words):
         raise usage()
@@ -166,7 +167,7 @@ def answer_text(words):
     return form(*rest)
 
 
-def answer(words):
+def answer(words: list[str]) -> tuple[int, bytes]:
     """The status and the text, as bytes, of the program's words."""
     try:
         status, text = DONE, answer_text(words)
@@ -177,7 +178,7 @@ def answer(words):
     return status, text if isinstance(text, bytes) else text.encode()
 
 
-def main():
+def main() -> int:
     """Answers the words of the command line."""
     status, text = answer(sys.argv[1:])
     try:

@@ -26,7 +26,7 @@ RECEIVING, COMPLETE, NO_ROWS, CONFLICT = "receiving", "complete", "norows", "con
 class Setup(NamedTuple):
     """The fields of FragSessionSetupReq (TS004-1.0.0)."""
 
-    index: int
+    index: int  # type: ignore[assignment]  # (a tuple has a method of that name)
     mask: int
     nbfrag: int
     fragsize: int
@@ -56,7 +56,7 @@ class Verdict(NamedTuple):
 # ---- the rank of rows, which are numbers
 
 
-def reduced(row, basis):
+def reduced(row: int, basis: dict[int, int]) -> int:
     """The row without the rows of a basis, each known by its highest bit."""
     while row:
         other = basis.get(row.bit_length())
@@ -66,9 +66,10 @@ def reduced(row, basis):
     return 0
 
 
-def ranks_of(rows):
+def ranks_of(rows: list[int]) -> list[int]:
     """How many rows are independent: of the first row alone, of the first two, and so on."""
-    basis, ranks = {}, []
+    basis: dict[int, int] = {}
+    ranks = []
     for row in rows:
         rest = reduced(row, basis)
         if rest:
@@ -77,9 +78,9 @@ def ranks_of(rows):
     return ranks
 
 
-def basis_of(rows):
+def basis_of(rows: list[int]) -> dict[int, int]:
     """Independent rows that make the same sums, each with a highest bit of its own."""
-    basis = {}
+    basis: dict[int, int] = {}
     for row in rows:
         rest = reduced(row, basis)
         if rest:
@@ -90,13 +91,13 @@ def basis_of(rows):
 # ---- the verdict over a history
 
 
-def equations_of(setup, heard):
+def equations_of(setup: Setup, heard: list[Fragment]) -> list[int]:
     """Each fragment as one number: its line, and below it the data."""
     width = 8 * setup.fragsize
     return [line_of(f.number, setup.nbfrag) << width | int.from_bytes(f.data, "big") for f in heard]
 
 
-def direct_counts(setup, heard):
+def direct_counts(setup: Setup, heard: list[Fragment]) -> list[int]:
     """How many different pieces came uncoded: by the first fragment, by the first two, and so on."""
     seen, counts = set(), []
     for f in heard:
@@ -106,7 +107,7 @@ def direct_counts(setup, heard):
     return counts
 
 
-def block_of(setup, equations):
+def block_of(setup: Setup, equations: list[int]) -> bytes:
     """All pieces, where the equations leave no choice: piece c is what is left of its column alone."""
     width = 8 * setup.fragsize
     basis = basis_of(equations)
@@ -114,7 +115,7 @@ def block_of(setup, equations):
     return b"".join(piece.to_bytes(setup.fragsize, "big") for piece in pieces)
 
 
-def verdict_of(setup, rows, heard):
+def verdict_of(setup: Setup, rows: int, heard: list[Fragment]) -> Verdict:
     """The verdict over all fragments that were heard, the oldest first.
 
     The first fragment decides after which no file fits, or more independent coded fragments came than there are rows,
@@ -150,12 +151,12 @@ class Limits:
     flash: bool
 
 
-def rows_for(limits, setup):
+def rows_for(limits: Limits, setup: Setup) -> int:
     """The rows of a session: no more than there are pieces."""
     return min(limits.rows, setup.nbfrag)
 
 
-def is_too_large(limits, setup):
+def is_too_large(limits: Limits, setup: Setup) -> bool:
     """There is no memory for it, or no flash."""
     rows = rows_for(limits, setup)
     records = FLASH_FRONT + (2 * setup.nbfrag + 1) * (10 + setup.fragsize)
@@ -169,7 +170,7 @@ def is_too_large(limits, setup):
     )
 
 
-def refusal_bits(limits, setup):
+def refusal_bits(limits: Limits, setup: Setup) -> int:
     """All refusal bits of FragSessionSetupAns together (TS004-1.0.0)."""
     wrong_coding = setup.algo != 0 or setup.nbfrag == 0 or setup.fragsize == 0 or setup.padding >= setup.fragsize
     no_index = setup.index >= SESSIONS
@@ -186,12 +187,12 @@ class Session:
 
     setup: Setup
     rows: int
-    heard: list = field(default_factory=list)
-    lines: set = field(default_factory=set)
+    heard: list[Fragment] = field(default_factory=list)
+    lines: set[int] = field(default_factory=set)
     judged: Verdict | None = None
     judged_at: int = -1
 
-    def drops(self, group, number, data):
+    def drops(self, group: int | None, number: int, data: bytes) -> bool:
         """A fragment is dropped: its group is none of the mask's, its number is none, or its length is another."""
         return (
             self.excludes(group)
@@ -199,41 +200,41 @@ class Session:
             or len(data) != self.setup.fragsize
         )
 
-    def excludes(self, group):
+    def excludes(self, group: int | None) -> bool:
         """The mask keeps out what came by this group."""
         return group is not UNICAST and not self.setup.mask >> group & 1
 
-    def hear(self, number, data, mark):
+    def hear(self, number: int, data: bytes, mark: int) -> None:
         """One fragment more. A line of no piece says nothing of the file, so that it is no line."""
         self.heard.append(Fragment(number, data, mark))
         self.lines |= {line_of(number, self.setup.nbfrag)} - {0}
 
     @property
-    def received(self):
+    def received(self) -> int:
         """NbFragReceived, which stays at the end of its 14 bits."""
         return min(len(self.heard), MAX_RECEIVED)
 
-    def verdict(self):
+    def verdict(self) -> Verdict:
         """The verdict. One that was reached stays, and one over the same history is not worked out twice."""
         stays = self.judged is not None and self.judged.state != RECEIVING
-        if not stays and self.judged_at != len(self.heard):
+        if self.judged is None or not stays and self.judged_at != len(self.heard):
             self.judged = verdict_of(self.setup, self.rows, self.heard)
             self.judged_at = len(self.heard)
         return self.judged
 
-    def is_complete(self):
+    def is_complete(self) -> bool:
         """One file alone fits. That takes as many different lines as there are pieces."""
         return len(self.lines) >= self.setup.nbfrag and self.verdict().state == COMPLETE
 
 
-def after_setup(limits, session, setup):
+def after_setup(limits: Limits, session: Session | None, setup: Setup) -> Session:
     """The session of an index after a setup without refusal bits: an equal one keeps it."""
     if session is not None and session.setup == setup:
         return session
     return Session(setup, rows_for(limits, setup))
 
 
-def status_of(session, group, everyone):
+def status_of(session: Session | None, group: int | None, everyone: int) -> dict[str, int] | None:
     """The fields of FragSessionStatusAns, or None where the session does not answer (TS004-1.0.0)."""
     if session is None or session.excludes(group):
         return None

@@ -2,6 +2,10 @@
 
 Numbers are decimal and truth values 0 or 1, unless the table below asks for another form.
 """
+from typing import Any
+
+from .commands import Command
+
 # name: the fields in the order of the text, each with its form where that is not a decimal
 FIELDS = {
     "PackageVersionReq": "",
@@ -41,17 +45,17 @@ FIELDS = {
 }
 
 
-def groups_text(groups):
+def groups_text(groups: tuple[tuple[int, int], ...]) -> str:
     """ID:ADDR of each, with commas between them; `-` for none."""
     return ",".join(f"{ident}:{addr:08x}" for ident, addr in groups) or "-"
 
 
-def value_text(form, value):
+def value_text(form: str, value: Any) -> str:
     """A value in one of the forms."""
     if form == "address":
         return f"{value:08x}"
     if form == "bytes":
-        return value.hex()
+        return bytes(value).hex()
     if form == "absent":
         return "-" if value is None else str(value)
     if form == "groups":
@@ -59,7 +63,7 @@ def value_text(form, value):
     return str(int(value))
 
 
-def command_text(command):
+def command_text(command: Command) -> str:
     """The text of a command. The error bits of a class session's answer are told as they stand in their byte."""
     words = [command.name]
     for entry in FIELDS[command.name].split():

@@ -2,13 +2,15 @@
 
 Both ends are moved by the lines alone. Payloads and uplinks are numbered from 1, in the order of sending and making.
 """
+from collections.abc import Callable
 from dataclasses import dataclass
+from typing import Any
 
-from .device import Config, Downlink, new_device
+from .device import Config, Device, Downlink, Uplink, new_device
 from .groups import Group
 from .parity import pieces_for
 from .report import device_part, image_words
-from .script import MAX_FLASH_DEVICES, fits_payload, form_of, is_in_range
+from .script import MAX_FLASH_DEVICES, Form, fits_payload, form_of, is_in_range
 from .server import Plan, Server, Window
 from .session import MAX_PIECES
 from .words import Refused, is_beyond, lines_of
@@ -40,15 +42,15 @@ class Made:
     """An uplink and the number of its device."""
 
     device: int
-    uplink: object
+    uplink: Uplink
 
 
-def numbered(items, number):
+def numbered(items: list[Any], number: int) -> Any:
     """The item of a number, counted from 1; None where there is none."""
     return items[number - 1] if 1 <= number <= len(items) else None
 
 
-def is_event_or_end(form):
+def is_event_or_end(form: Form) -> bool:
     """The form comes after the plan."""
     return form.name not in PLAN_FORMS
 
@@ -56,44 +58,44 @@ def is_event_or_end(form):
 class World:
     """A campaign at a moment."""
 
-    def __init__(self, image):
+    def __init__(self, image: bytes) -> None:
         self.section = "header"
         self.time = 0
         self.server = Server(image, Plan())
-        self.devices = []
-        self.flash = set()
-        self.sent = []
-        self.uplinks = []
+        self.devices: list[Device] = []
+        self.flash: set[int] = set()
+        self.sent: list[Sent] = []
+        self.uplinks: list[Made] = []
 
     # ---- causes
 
-    def takes_events(self):
+    def takes_events(self) -> bool:
         """Events and the end may come here."""
         return self.section in ("devices", "events")
 
-    def is_in_order(self, form):
+    def is_in_order(self, form: Form) -> bool:
         """The form may come here."""
         if is_event_or_end(form):
             return self.takes_events()
         return form.name in PLAN_ORDER[self.section]
 
-    def fits(self, form):
+    def fits(self, form: Form) -> bool:
         """The image is cut into few enough pieces, and an ID is the next."""
         if form.name == "image":
             return pieces_for(len(self.server.image), form["fragsize"]) <= MAX_PIECES
         return form.name != "device" or form["id"] == len(self.devices) + 1
 
-    def names_device(self, form):
+    def names_device(self, form: Form) -> bool:
         """The device is there, and one whose power goes has a flash."""
         if form.name == "device" or "device" not in form.fields:
             return True
         return self.is_device(form["device"]) and (form.name != "power" or form["device"] in self.flash)
 
-    def is_device(self, number):
+    def is_device(self, number: int) -> bool:
         """There is a device of this number."""
         return 1 <= number <= len(self.devices)
 
-    def is_available(self, form):
+    def is_available(self, form: Form) -> bool:
         """The payload was sent, to this device or to any, and as a frame where it goes by air; the uplink is due."""
         if form.name == "up":
             made = numbered(self.uplinks, form["number"])
@@ -105,13 +107,13 @@ class World:
             return False
         return form.name == "down" or sent.down.is_to_group
 
-    def has_more(self, form):
+    def has_more(self, form: Form) -> bool:
         """There is something left to send."""
         if form.name == "frag":
             return self.server.has_fragment()
         return form.name != "status" or self.server.has_count()
 
-    def cause_of(self, form):
+    def cause_of(self, form: Form) -> str | None:
         """The first cause for which a form is refused; None where there is none."""
         if not self.is_in_order(form):
             return "order"
@@ -129,40 +131,40 @@ class World:
 
     # ---- what a form makes
 
-    def take(self, form, line):
+    def take(self, form: Form, line: int) -> None:
         """A form that is not refused, of the line with this number."""
         if is_event_or_end(form):
             self.begin_events()
         getattr(self, f"on_{form.name}")(form, line)
 
-    def begin_events(self):
+    def begin_events(self) -> None:
         """The plan is whole with the first event."""
         if self.section == "devices":
             self.server.begin()
         self.section = "events"
 
-    def on_fuota(self, form, line):
+    def on_fuota(self, form: Form, line: int) -> None:
         """The first line."""
         self.section = "image"
 
-    def on_image(self, form, line):
+    def on_image(self, form: Form, line: int) -> None:
         """How the image is cut."""
         plan = self.server.plan
         plan.fragsize, plan.parity, plan.index = form["fragsize"], form["parity"], form["index"]
         self.section = "group"
 
-    def on_group(self, form, line):
+    def on_group(self, form: Form, line: int) -> None:
         """The plan's group."""
         self.server.plan.ident = form["id"]
         self.server.plan.group = Group(form["addr"], form["key"], form["min"], form["max"])
         self.section = "window"
 
-    def on_window(self, form, line):
+    def on_window(self, form: Form, line: int) -> None:
         """The class session of the group."""
         self.server.plan.window = Window(**form.fields)
         self.section = "device"
 
-    def on_device(self, form, line):
+    def on_device(self, form: Form, line: int) -> None:
         """One device more."""
         config = Config(
             is_class_a=form["class"] == "a",
@@ -181,85 +183,85 @@ class World:
             self.flash.add(form["id"])
         self.section = "devices"
 
-    def on_at(self, form, line):
+    def on_at(self, form: Form, line: int) -> None:
         """The time now."""
         self.time = form["time"]
 
-    def on_wake(self, form, line):
+    def on_wake(self, form: Form, line: int) -> None:
         """A device asks for the time."""
         self.happen(form["device"], lambda device: device.wake(self.time))
 
-    def on_migrate(self, form, line):
+    def on_migrate(self, form: Form, line: int) -> None:
         """A device knows both image formats."""
         self.happen(form["device"], lambda device: device.migrate())
 
-    def on_power(self, form, line):
+    def on_power(self, form: Form, line: int) -> None:
         """All that a device holds in flash is there again: nothing is another than before."""
 
-    def on_ask(self, form, line):
+    def on_ask(self, form: Form, line: int) -> None:
         """The request of a device's stage."""
         self.send(form["device"], self.server.request_for(form["device"]))
 
-    def on_frag(self, form, line):
+    def on_frag(self, form: Form, line: int) -> None:
         """The next fragment."""
         self.send(None, self.server.send_fragment())
 
-    def on_status(self, form, line):
+    def on_status(self, form: Form, line: int) -> None:
         """A status request to all."""
         self.send(None, self.server.send_status())
 
-    def on_down(self, form, line):
+    def on_down(self, form: Form, line: int) -> None:
         """A sent payload reaches a device."""
         self.reach(form["device"], numbered(self.sent, form["number"]).down, form["word"], line)
 
-    def on_air(self, form, line):
+    def on_air(self, form: Form, line: int) -> None:
         """A sent payload reaches the radio of a device as its frame."""
         self.hear(form["device"], self.server.frame(numbered(self.sent, form["number"]).down), form["word"], line)
 
-    def on_raw(self, form, line):
+    def on_raw(self, form: Form, line: int) -> None:
         """Anybody's payload reaches a device."""
         self.reach(form["device"], Downlink(form["port"], form["payload"]), form["word"], line)
 
-    def on_rawair(self, form, line):
+    def on_rawair(self, form: Form, line: int) -> None:
         """Anybody's bytes reach the radio of a device."""
         self.hear(form["device"], form["payload"], form["word"], line)
 
-    def on_up(self, form, line):
+    def on_up(self, form: Form, line: int) -> None:
         """An uplink reaches the server, whose answer goes to its device."""
         made = numbered(self.uplinks, form["number"])
         answer = self.server.uplink(made.device, made.uplink.port, made.uplink.payload, self.time)
         self.send(made.device, answer)
 
-    def on_end(self, form, line):
+    def on_end(self, form: Form, line: int) -> None:
         """The last line."""
         self.section = "ended"
 
-    def send(self, receiver, down):
+    def send(self, receiver: int | None, down: Downlink | None) -> None:
         """A payload is sent, where there is one, and numbered."""
         if down is not None:
             self.sent.append(Sent(receiver, down))
 
-    def reach(self, number, down, word, line):
+    def reach(self, number: int, down: Downlink, word: int, line: int) -> None:
         """A payload reaches a device; the mark is the line."""
         self.happen(number, lambda device: device.receive(self.time, down, word, line))
 
-    def hear(self, number, frame, word, line):
+    def hear(self, number: int, frame: bytes, word: int, line: int) -> None:
         """Bytes reach the radio of a device."""
         self.happen(number, lambda device: device.radio(self.time, frame, word, line))
 
-    def happen(self, number, event):
+    def happen(self, number: int, event: Callable[..., Any]) -> None:
         """After an event at a device its uplinks are taken and numbered."""
         device = self.devices[number - 1]
         event(device)
         self.uplinks.extend(Made(number, uplink) for uplink in device.take_uplinks())
 
 
-def fits_flash(count, form):
+def fits_flash(count: int, form: Form) -> bool:
     """After so many devices with a flash one more has its place."""
     return form.name != "device" or not form["flash"] or count < MAX_FLASH_DEVICES
 
 
-def play(image, script):
+def play(image: bytes, script: bytes) -> World:
     """The campaign of an image and a script, or Refused with the first refused line."""
     world, lines = World(image), lines_of(script)
     for number, line in enumerate(lines, 1):
@@ -267,15 +269,15 @@ def play(image, script):
             raise Refused(number, "limit")
         form = form_of(line)
         cause = "syntax" if form is None else world.cause_of(form)
-        if cause is not None:
-            raise Refused(number, cause)
+        if form is None or cause is not None:
+            raise Refused(number, cause or "syntax")
         world.take(form, number)
     if world.section != "ended":
         raise Refused(len(lines) + 1, "syntax")
     return world
 
 
-def report_of(world):
+def report_of(world: World) -> str:
     """The report of a campaign."""
     server = world.server
     parts = (

@@ -1,0 +1,49 @@
+"""The folder of a campaign: the server's bytes, a journal of what was sent and heard, and a lock."""
+import fcntl
+import os
+import pathlib
+
+from ..errors import Wrong
+from .journal import Journal
+
+
+class Folder:
+    """The folder of a campaign, which one process at a time works on."""
+
+    def __init__(self, path: str | pathlib.Path) -> None:
+        self.path = pathlib.Path(path)
+        self.path.mkdir(mode=0o700, exist_ok=True)
+        self.lock = os.open(self.path / "lock", os.O_RDWR | os.O_CREAT | os.O_CLOEXEC, 0o600)
+        try:
+            fcntl.flock(self.lock, fcntl.LOCK_EX | fcntl.LOCK_NB)
+        except BlockingIOError:
+            raise Wrong(f"{self.path}: another fuota-campaign works on it") from None
+        self.directory = os.open(self.path, os.O_RDONLY | os.O_DIRECTORY | os.O_CLOEXEC)
+        self.saved = self.read()
+        self.journal = Journal(self.path / "journal")
+        if self.saved is None and self.journal.lines:
+            raise Wrong(f"{self.path}: there is a journal and no state: frame counts could be sent twice")
+
+    def read(self) -> bytes | None:
+        """The bytes that were kept; None where there are none."""
+        try:
+            return (self.path / "state").read_bytes()
+        except FileNotFoundError:
+            return None
+
+    def keep(self, saved: bytes) -> None:
+        """Puts bytes in the place of those that were kept: all of them, or none."""
+        if saved == self.saved:
+            return
+        new = self.path / "state.new"
+        with open(new, "wb") as handle:
+            handle.write(saved)
+            handle.flush()
+            os.fsync(handle.fileno())
+        os.replace(new, self.path / "state")
+        os.fsync(self.directory)
+        self.saved = saved
+
+    def close(self) -> None:
+        for handle in (self.journal.handle, self.directory, self.lock):
+            os.close(handle)

@@ -1,0 +1,92 @@
+"""The journal of a campaign (docs/FORMATS.md): written line by line, and read by the one reader that there is of it."""
+import json
+import logging
+import os
+import pathlib
+from typing import Any
+
+from ..errors import Wrong
+from .contact import Contact
+from .plan import Retry
+
+VERSION = 1
+Line = dict[str, Any]
+LOG = logging.getLogger(__name__)
+
+
+class Journal:
+    """Lines of JSON, of which each is on the disk before `write` returns; `lines` are those that were there before."""
+
+    def __init__(self, path: pathlib.Path) -> None:
+        self.handle = os.open(path, os.O_RDWR | os.O_CREAT | os.O_APPEND, 0o600)
+        with open(self.handle, "rb", closefd=False) as reader:
+            reader.seek(0)
+            text = reader.read()
+        # (a last line that was not written whole is taken away)
+        self.size = text.rfind(b"\n") + 1
+        if self.size < len(text):
+            os.ftruncate(self.handle, self.size)
+        self.lines = lines_of(text[:self.size], path)
+
+    def write(self, line: Line) -> None:
+        """Writes a line; where there is no room it is as if it had not been begun."""
+        text = json.dumps(line, separators=(",", ":"))
+        LOG.info("%s", text)
+        left = data = text.encode() + b"\n"
+        try:
+            while left:
+                left = left[os.write(self.handle, left):]
+            os.fsync(self.handle)
+        except OSError:
+            os.ftruncate(self.handle, self.size)
+            raise
+        self.size += len(data)
+
+
+def lines_of(text: bytes, path: pathlib.Path) -> list[Line]:
+    """The lines of a journal; what is none is passed over. One of a later version is refused, and one without a version, as
+    they were at first, is of version 1."""
+    found: list[Line] = []
+    for line in text.splitlines():
+        try:
+            members = json.loads(line)
+        except ValueError:
+            continue
+        if isinstance(members, dict) and isinstance(members.get("t"), int):
+            found.append(members)
+    version = found[0].get("version", VERSION) if found else VERSION
+    if version != VERSION:
+        raise Wrong(f"{path}: a journal of version {version!r:.20}, and this fuota reads version {VERSION}: take the fuota that wrote it")
+    return found
+
+
+class History:
+    """What a journal tells of a campaign: how it began, its devices, and what went out. A campaign that goes on hands each
+    line that it writes to `take` too."""
+
+    def __init__(self, lines: list[Line], retry: Retry) -> None:
+        self.retry = retry
+        self.contacts: dict[str, Contact] = {}
+        self.carrier: str | None = None
+        self.index, self.fragments = 0, 0
+        self.begin, self.last = 0, 0
+        # When fragments went out; and by unicast and to the group the last payload's moment and its ms on the air.
+        self.fragments_at: list[int] = []
+        self.sent: dict[bool, tuple[int, float]] = {}
+        for line in lines:
+            self.take(line)
+
+    def take(self, line: Line) -> None:
+        """Takes the next line."""
+        self.last = line["t"]
+        if "devices" in line:
+            self.begin, self.carrier = line["t"], line["by"]
+            self.index, self.fragments = line["index"], line["fragments"]
+            self.contacts = {eui: Contact(number, eui, self.begin, self.retry) for number, eui in enumerate(line["devices"], 1)}
+        if line.get("sent") == "fragment":
+            self.fragments_at.append(line["t"])
+        if "air" in line:
+            self.sent["count" in line] = line["t"], line["air"]
+        contact = self.contacts.get(line.get("device", ""))
+        if contact:
+            contact.take(line)

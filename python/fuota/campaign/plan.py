@@ -1,0 +1,330 @@
+"""A campaign's plan, as a file in TOML has it: plan.toml beside this module explains each field."""
+import datetime
+import math
+import pathlib
+from collections.abc import Iterator
+from dataclasses import dataclass
+from typing import Any
+
+from .. import fields, image, library, lns
+from ..errors import Wrong
+from ..fields import Place, choice, digits, file, member, number, raw_table, seconds, table, tables, whole, word
+from ..limits import MAX_CODED, MAX_DEVICES, MAX_PIECE, MAX_PIECES, MAX_ROWS
+from ..theory import DATA_RATES, FRAGMENT_HEAD, FRAME, air_time, chain_of, complete_shares, duration, time_of
+
+# Unix time of the GPS epoch, and the leap seconds since, in ms.
+GPS_EPOCH, LEAP = 315_964_800_000, 18_000
+# Seconds from a beacon of class B to the next one.
+BEACON = 128
+LAST_RATE = max(DATA_RATES)
+LAST_COUNT = 2**32 - 1
+
+
+def gps(t: int) -> int:
+    """ms of GPS time for ms of Unix time."""
+    return t - GPS_EPOCH + LEAP
+
+
+def moment_of(t: int) -> str:
+    """ms of Unix time as a text."""
+    return datetime.datetime.fromtimestamp(t // 1000, datetime.timezone.utc).strftime("%Y-%m-%d %H:%M:%S UTC")
+
+
+# ---- Its tables
+
+
+@dataclass(frozen=True, kw_only=True)
+class Fragments:
+    """The bytes of a piece, and how many coded fragments: a number, or what a loss and a share of devices need by theory."""
+
+    size: int = member(whole(1, MAX_PIECE))
+    coded: int | None = member(whole(0, MAX_CODED), None)
+    loss: float | None = member(number(0, 99), None)
+    share: float | None = member(number(1, 99.99), None)
+    burst: float | None = member(number(1, MAX_PIECES), None)
+    rows: int | None = member(whole(0, MAX_ROWS), None)
+    index: int = member(whole(0, 3), 0)
+
+
+@dataclass(frozen=True, kw_only=True)
+class Group:
+    """A multicast group, with its first frame count and the first that is not used any more."""
+
+    id: int = member(whole(0, 3), 0)
+    address: bytes = member(digits(8))
+    key: bytes = member(digits(32))
+    first: int = member(whole(0, LAST_COUNT - 1), 0)
+    end: int = member(whole(1, LAST_COUNT))
+
+    @property
+    def number(self) -> int:
+        """The address as a number."""
+        return int.from_bytes(self.address, "big")
+
+
+@dataclass(frozen=True, kw_only=True)
+class Window:
+    """A class session. `start` is ms of Unix time; nothing is sent in its first and its last `guard` ms."""
+
+    kind: str = member(choice("B", "C"), name="class")
+    start: int = member(fields.moment)
+    timeout: int = member(whole(0, 15))
+    periodicity: int | None = member(whole(0, 7), None)
+    frequency: int = member(whole(100_000_000, 1_677_721_500))
+    data_rate: int = member(whole(0, LAST_RATE))
+    guard: int = member(seconds(0, 3_600), 2_000)
+
+    @property
+    def opens(self) -> int:
+        """ms of Unix time; class B begins with a beacon."""
+        second = gps(self.start) // 1000
+        return self.start - (second % BEACON * 1000 if self.kind == "B" else 0)
+
+    @property
+    def length(self) -> int:
+        return (1 << self.timeout) * 1000 * (BEACON if self.kind == "B" else 1)
+
+    @property
+    def closes(self) -> int:
+        return self.opens + self.length
+
+
+@dataclass(frozen=True, kw_only=True)
+class Pace:
+    """The least distance of downlinks in ms, the percent of time on the air, and the data rate of what goes by unicast."""
+
+    distance: int = member(seconds(0, 86_400))
+    duty_cycle: float = member(number(0.01, 100))
+    unicast_data_rate: int = member(whole(0, LAST_RATE), 0)
+
+
+@dataclass(frozen=True, kw_only=True)
+class Retry:
+    """The ms until a request is tried again, and how often it is tried."""
+
+    distance: int = member(seconds(0.001, 604_800))
+    tries: int = member(whole(1, 1_000))
+
+
+@dataclass(frozen=True, kw_only=True)
+class Device:
+    """A device. What goes to one of class A waits in its network server's queue for an uplink. It has a GenAppKey of LoRaWAN
+    1.0, or an AppKey of LoRaWAN 1.1."""
+
+    eui_bytes: bytes = member(digits(16), name="eui")
+    gen_app_key: bytes | None = member(digits(32), None)
+    app_key: bytes | None = member(digits(32), None)
+    kind: str = member(choice("A", "C"), name="class")
+    id: str | None = member(word, None)
+
+    @property
+    def eui(self) -> str:
+        return self.eui_bytes.hex()
+
+    @property
+    def is_class_c(self) -> bool:
+        return self.kind == "C"
+
+    @property
+    def for_library(self) -> library.PlanDevice:
+        """The device as the library takes it."""
+        return library.PlanDevice(key=self.app_key or self.gen_app_key, is_v11=self.app_key is not None)
+
+
+@dataclass(frozen=True, kw_only=True)
+class File:
+    """A whole file."""
+
+    image: pathlib.Path = member(file)
+    fragments: Fragments = table(Fragments)
+    group: Group | None = table(Group, None)
+    window: Window | None = table(Window, None)
+    pace: Pace = table(Pace)
+    retry: Retry = table(Retry)
+    server: dict[str, Any] | None = member(raw_table, None)
+    devices: tuple[Device, ...] = tables(Device, MAX_DEVICES)
+
+
+# ---- What a plan is
+
+
+@dataclass(frozen=True)
+class Plan:
+    """A plan, whose tables fit each other; a group and a window go together."""
+
+    file: pathlib.Path
+    image: image.Image
+    size: int
+    coded: int
+    index: int
+    group: Group | None
+    window: Window | None
+    pace: Pace
+    retry: Retry
+    server: lns.Server | None
+    devices: tuple[Device, ...]
+
+    @property
+    def pieces(self) -> int:
+        return -(-len(self.image.data) // self.size)
+
+    @property
+    def fragments(self) -> int:
+        return self.pieces + self.coded
+
+    def air(self, length: int, is_group: bool) -> float:
+        """The ms that a payload is on the air."""
+        rate = self.window.data_rate if self.window and is_group else self.pace.unicast_data_rate
+        return air_time(rate, FRAME + length)
+
+    @property
+    def fragment_air(self) -> float:
+        """The ms that a fragment is on the air."""
+        return self.air(FRAGMENT_HEAD + self.size, self.group is not None)
+
+    def distance(self, air: float) -> int:
+        """The ms from a downlink of so long to the next one."""
+        return math.ceil(max(self.pace.distance, 100 * air / self.pace.duty_cycle))
+
+    @property
+    def copies(self) -> int:
+        """How often each fragment goes out."""
+        return 1 if self.group else len(self.devices)
+
+    @property
+    def need(self) -> float:
+        """The ms that all fragments need."""
+        return time_of(self.fragments * self.copies, self.distance(self.fragment_air), self.fragment_air)
+
+    def does_not_fit(self) -> str | None:
+        """Why the fragments do not fit the window; None where they do."""
+        has = self.window.length - 2 * self.window.guard if self.window else self.need
+        if self.need <= has:
+            return None
+        return (f"the fragments need {duration(self.need)}, the window has {duration(has)}: take another data rate, longer "
+                "pieces or a longer window")
+
+    def for_library(self) -> library.Plan:
+        """The plan as the library takes it."""
+        told: dict[str, Any] = {"frag_size": self.size, "parity": self.coded, "index": self.index}
+        if self.group and self.window:
+            group, window = self.group, self.window
+            told |= {"has_group": True, "addr": group.number, "min": group.first, "max": group.end, "id": group.id,
+                     "key": group.key, "has_window": True, "start": gps(window.start) // 1000,
+                     "freq": window.frequency // 100, "timeout": window.timeout, "dr": window.data_rate,
+                     "is_class_b": window.kind == "B", "periodicity": window.periodicity or 0}
+        return library.Plan(**told)
+
+    @property
+    def devices_for_library(self) -> list[library.PlanDevice]:
+        return [device.for_library for device in self.devices]
+
+
+# ---- How it is read
+
+
+def read_plan(path: str | pathlib.Path) -> Plan:
+    """The plan of a file."""
+    place = Place(pathlib.Path(path))
+    told = fields.read(File, place, fields.read_file(place.file))
+    try:
+        made = image.load(told.image)
+    except OSError as why:
+        raise place.wrong(f"{told.image}: {why.strerror}", "image") from None
+    except Wrong as why:
+        raise place.wrong(why, "image") from None
+    if (told.group is None) != (told.window is None):
+        raise place.wrong(f'missing table "{"window" if told.group else "group"}": a group and its window go together')
+    pieces = -(-len(made.data) // told.fragments.size)
+    if pieces > MAX_PIECES:
+        raise place.wrong(f"{pieces} pieces of {told.fragments.size} bytes, and not at most {MAX_PIECES}", "fragments.size")
+    coded = coded_for(told.fragments, pieces, place.inner("fragments"))
+    server = None if told.server is None else lns.read(place.inner("server"), told.server, told.group is not None)
+    plan = Plan(place.file, made, told.fragments.size, coded, told.fragments.index, told.group, told.window, told.pace, told.retry,
+                server, told.devices)
+    hold_devices(plan, place)
+    hold_window(plan, place)
+    return plan
+
+
+def coded_for(fragments: Fragments, pieces: int, place: Place) -> int:
+    """How many coded fragments: as many as the plan says, or as a loss and a share of devices need by theory."""
+    for name in ("loss", "share", "burst", "rows"):
+        if fragments.coded is not None and getattr(fragments, name) is not None:
+            raise place.wrong("coded is given too, and says it already", name)
+    if fragments.coded is not None:
+        return fragments.coded
+    if fragments.loss is None or fragments.share is None:
+        name = "loss" if fragments.loss is None else "share"
+        raise place.wrong(f'missing field "{name}" (loss and share, or coded in their place)')
+    try:
+        chain = chain_of(fragments.loss / 100, fragments.burst)
+    except Wrong as why:
+        raise place.wrong(why, "burst") from None
+    shares = complete_shares(chain, pieces, MAX_CODED, MAX_ROWS if fragments.rows is None else fragments.rows)
+    found = next((count for count, complete in enumerate(shares) if complete >= fragments.share / 100), None)
+    if found is None:
+        raise place.wrong(f"{fragments.share:g} % of the devices are not complete with {MAX_CODED} coded fragments: take more "
+                          "rows, longer pieces, or a smaller share", "share")
+    return found
+
+
+def hold_devices(plan: Plan, place: Place) -> None:
+    """Refuses devices with two keys or none, two of one EUI, and one without the id that its network server needs."""
+    euis: list[str] = []
+    for at, device in enumerate(plan.devices, 1):
+        here = place.inner(f"devices[{at}]")
+        if device.app_key and device.gen_app_key:
+            raise here.wrong("gen_app_key is given too: a device has one of them", "app_key")
+        if not device.app_key and not device.gen_app_key:
+            raise here.wrong('missing field "gen_app_key" (of LoRaWAN 1.0, or app_key of LoRaWAN 1.1)')
+        if device.eui in euis:
+            raise here.wrong(f"{device.eui} is given twice", "eui")
+        if plan.server and plan.server.needs_ids and not device.id:
+            raise here.wrong(f'missing field "id", the name of the device at {plan.server.name}')
+        euis.append(device.eui)
+
+
+def hold_window(plan: Plan, place: Place) -> None:
+    """Refuses a group and a window that do not fit each other or the fragments."""
+    group, window = plan.group, plan.window
+    rate = window.data_rate if window else plan.pace.unicast_data_rate
+    longest = DATA_RATES[rate][2] - FRAGMENT_HEAD
+    if plan.size > longest:
+        raise place.wrong(f"data rate {rate} carries pieces of {longest} bytes at most", "fragments.size")
+    if not group or not window:
+        return
+    if not 0 <= gps(window.start) // 1000 < 2**32:
+        raise place.wrong(f"{moment_of(window.start)} is not within the 32 bits of GPS time", "window.start")
+    if window.frequency % 100:
+        raise place.wrong(f"{window.frequency} Hz is not a multiple of 100 Hz", "window.frequency")
+    if window.kind == "B" and window.periodicity is None:
+        raise place.wrong('missing field "periodicity", which class B needs', "window")
+    if window.kind == "C" and window.periodicity is not None:
+        raise place.wrong("only a window of class B has one", "window.periodicity")
+    if not group.first + plan.fragments < group.end:
+        raise place.wrong(f"{plan.fragments} fragments and a request for the status need the frame counts from {group.first} to "
+                          f"{group.first + plan.fragments}, and {group.end} ends before", "group.end")
+
+
+# ---- What it comes to
+
+
+def lines_of(plan: Plan) -> Iterator[str]:
+    """What would be sent, and when, a line each."""
+    made = plan.image
+    hardware = made.lowest if made.lowest == made.highest else f"{made.lowest} to {made.highest}"
+    yield f"image: {len(made.data)} bytes, firmware {made.version} for hardware {hardware}"
+    yield f"fragments: {plan.pieces} of {plan.size} bytes and {plan.coded} coded, {plan.fragments} in all"
+    requests = 8 if plan.group else 6
+    yield f"devices: {len(plan.devices)}, each asked {requests} times or more, by unicast"
+    has = ""
+    if plan.group and plan.window:
+        group, window = plan.group, plan.window
+        yield f"group: {group.address.hex()}, frame counts {group.first} to {group.first + plan.fragments}"
+        yield (f"window: class {window.kind}, from {moment_of(window.opens)} on for {duration(window.length)}, on "
+               f"{window.frequency / 1e6:g} MHz at data rate {window.data_rate}")
+        has = f", the window has {duration(window.length - 2 * window.guard)}"
+    air = plan.fragment_air
+    yield f"air: {duration(air)} a fragment, the next one {duration(plan.distance(air))} after it"
+    yield f"time: {plan.does_not_fit() or f'the fragments take {duration(plan.need)}{has}'}"

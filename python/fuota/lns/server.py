@@ -1,0 +1,187 @@
+"""What a network server is to campaigns and captures, and how members of its messages are read."""
+import abc
+import base64
+import dataclasses
+import datetime
+import pathlib
+import re
+import socket
+from collections.abc import Callable, Iterable
+from dataclasses import dataclass
+from typing import Any, ClassVar
+
+from ..errors import Wrong
+from ..fields import file, member, whole, word
+from ..limits import MAX_PAYLOAD
+
+Members = dict[str, Any]
+Publish = Callable[[str, Members], None]
+EUI = re.compile("[0-9A-Fa-f]{2}(?:[-:. ]?[0-9A-Fa-f]{2}){7}")
+EUI_LENGTH = 8
+A_DAY = 86_400_000
+# What a type of JSON is called.
+TYPES = {dict: "an object", list: "a list", str: "a text", bool: "a truth value"}
+
+
+class Lost(Exception):
+    """A payload was not taken, as far as is known: it counts as lost, and the next one may be taken."""
+
+
+class Refusing(Exception):
+    """The network server refuses, and will refuse again."""
+
+
+@dataclass(frozen=True)
+class Uplink:
+    """What a device sent, at `t` ms of Unix time; port 0 where it had no payload."""
+
+    eui: str
+    port: int
+    payload: bytes
+    t: int
+
+
+@dataclass(frozen=True)
+class Payload:
+    """What a message carries: which way, port and payload as they stand in it, and why it is no payload for a capture, if so."""
+
+    way: str
+    port: Any
+    text: Any
+    left_out: str | None = None
+
+    def checked_port(self) -> int | None:
+        """The port, where there is one."""
+        if self.port is not None and (isinstance(self.port, bool) or not isinstance(self.port, int) or not 0 <= self.port < 256):
+            raise Wrong(f"invalid port: {self.port!r:.40}")
+        return self.port
+
+    def octets(self) -> bytes:
+        """The payload, which is empty where there is none."""
+        try:
+            payload = base64.b64decode("" if self.text is None else self.text, validate=True)
+        except (TypeError, ValueError):
+            raise Wrong(f"the payload is not base64: {self.text!r:.40}") from None
+        if len(payload) > MAX_PAYLOAD:
+            raise Wrong(f"a payload of {len(payload)} bytes, and not of at most {MAX_PAYLOAD}")
+        return payload
+
+
+@dataclass(frozen=True, kw_only=True)
+class Server(abc.ABC):
+    """A network server. Its fields are those of its table in a plan."""
+
+    # What `kind` calls it in a plan, and whether each device of a plan needs an id.
+    name: ClassVar[str]
+    needs_ids: ClassVar[bool] = False
+    # The members that hold other messages, each with its types.
+    holders: ClassVar[dict[str, tuple[type, ...]]]
+
+    host: str = member(word)
+    port: int = member(whole(1, 65_535), 1883)
+    access_file: pathlib.Path | None = member(file, None)
+
+    @classmethod
+    def group_fields(cls) -> list[str]:
+        """The fields that a group needs."""
+        return [it.name for it in dataclasses.fields(cls) if it.metadata["for_group"]]
+
+    # ---- Its messages, as its integrations and its API have them
+
+    @classmethod
+    @abc.abstractmethod
+    def payload(cls, members: Members, holder: str | None = None) -> Payload | None:
+        """What a message carries, which the member `holder` of another may hold; None where it is no payload of this server."""
+
+    @classmethod
+    @abc.abstractmethod
+    def euis(cls, members: Members) -> list[str | None]:
+        """The EUIs by which a message names its device."""
+
+    @classmethod
+    @abc.abstractmethod
+    def kind_of(cls, members: Members) -> str | None:
+        """The kind of a message that carries nothing, where it is one of this server's."""
+
+    @classmethod
+    def names_group(cls, members: Members) -> bool:
+        """Whether a message names a multicast group."""
+        return False
+
+    # ---- A campaign over MQTT
+
+    @property
+    @abc.abstractmethod
+    def topic(self) -> str:
+        """Under which the uplinks of all devices are published."""
+
+    @abc.abstractmethod
+    def uplink(self, members: Members, now: int) -> Uplink:
+        """What a message under the topic says, which comes at `now` ms of Unix time."""
+
+    @abc.abstractmethod
+    def to_device(self, publish: Publish, eui: str, name: str | None, port: int, payload: bytes) -> None:
+        """Puts a payload into the queue of a device."""
+
+    @abc.abstractmethod
+    def to_group(self, publish: Publish, counts: range, count: int, port: int, payload: bytes) -> int | None:
+        """Puts a payload into the queue of the group, which has these frame counts: the count that the server gives it, where
+        it tells one."""
+
+    def prepare(self) -> None:
+        """Reads what it needs beside the plan."""
+
+    def is_up(self) -> bool:
+        """Whether what it has beside the broker answers."""
+        return True
+
+
+# ---- Members
+
+
+def member_of(members: Members, name: str, *kinds: type) -> Any:
+    """A member, which has to be of one of these types; None where it is absent or null."""
+    value = members.get(name)
+    if value is not None and not isinstance(value, kinds):
+        raise Wrong(f"{name} is not {' or '.join(TYPES[kind] for kind in kinds)}: {value!r:.40}")
+    return value
+
+
+def eui_of(text: Any) -> str:
+    """An EUI as 16 small hex digits. It is written as hex, in either case and with separators or none, or in base64."""
+    if isinstance(text, str) and EUI.fullmatch(text):
+        return re.sub("[-:. ]", "", text).lower()
+    try:
+        octets = base64.b64decode(text, validate=True)
+    except (TypeError, ValueError):
+        octets = b""
+    if len(octets) != EUI_LENGTH:
+        raise Wrong(f"invalid EUI: {text!r:.40}")
+    return octets.hex()
+
+
+def uplink_of(euis: Iterable[str | None], found: Payload, t: int) -> Uplink:
+    """An uplink of what a message carries."""
+    return Uplink(eui_of(next((eui for eui in euis if eui), None)), found.checked_port() or 0, found.octets(), t)
+
+
+def time_of(text: Any, now: int) -> int:
+    """ms of Unix time of a text, where it is one of the last day; else now."""
+    try:
+        t = round(datetime.datetime.fromisoformat(text).timestamp() * 1000)
+    except (TypeError, ValueError, OverflowError):
+        return now
+    return t if now - A_DAY <= t <= now else now
+
+
+def base64_of(payload: bytes) -> str:
+    return base64.b64encode(payload).decode()
+
+
+def reaches(host: str, port: int) -> bool:
+    """Whether somebody listens there."""
+    try:
+        socket.create_connection((host, port), 5).close()
+    except OSError:
+        return False
+    return True

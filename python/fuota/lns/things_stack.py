@@ -1,0 +1,72 @@
+"""The Things Stack v3, over MQTT. A group is a device of its own there, whose downlinks name their gateways."""
+from dataclasses import dataclass
+from typing import Any
+
+from ..errors import Wrong
+from ..fields import member, word, words
+from .server import Members, Payload, Publish, Server, Uplink, base64_of, member_of, time_of, uplink_of
+
+
+@dataclass(frozen=True, kw_only=True)
+class ThingsStack(Server):
+    """The Things Stack."""
+
+    name = "things-stack"
+    needs_ids = True
+    holders = {"result": (dict,), "downlinks": (list,)}
+
+    application: str = member(word)
+    tenant: str = member(word)
+    multicast_device: str | None = member(word, None, for_group=True)
+    gateways: tuple[str, ...] = member(words, (), for_group=True)
+
+    @classmethod
+    def payload(cls, members: Members, holder: str | None = None) -> Payload | None:
+        if holder == "downlinks":
+            text = members.get("frm_payload")
+            # (the server is to make a payload of such an object)
+            is_object = member_of(members, "decoded_payload", dict)
+            return Payload("down", members.get("f_port"), text, "without payload" if is_object and not text else None)
+        for name, way in (("uplink_message", "up"), ("downlink_sent", "down")):
+            inner = member_of(members, name, dict)
+            if inner is not None:
+                return Payload(way, inner.get("f_port"), inner.get("frm_payload"))
+        return None
+
+    @classmethod
+    def euis(cls, members: Members) -> list[str | None]:
+        return [member_of(member_of(members, "end_device_ids", dict) or {}, "dev_eui", str)]
+
+    @classmethod
+    def kind_of(cls, members: Members) -> str | None:
+        if "join_accept" in members:
+            return "join"
+        return "ack" if any(name in members for name in ("downlink_ack", "downlink_nack")) else None
+
+    # ---- A campaign
+
+    @property
+    def base(self) -> str:
+        return f"v3/{self.application}@{self.tenant}/devices"
+
+    @property
+    def topic(self) -> str:
+        return f"{self.base}/+/up"
+
+    def uplink(self, members: Members, now: int) -> Uplink:
+        found = self.payload(members)
+        if found is None:
+            raise Wrong("not an uplink message")
+        return uplink_of(self.euis(members), found, time_of(members.get("received_at"), now))
+
+    def push(self, publish: Publish, name: str | None, port: int, payload: bytes, **more: Any) -> None:
+        down = {"f_port": port, "frm_payload": base64_of(payload), "priority": "NORMAL", **more}
+        publish(f"{self.base}/{name}/down/push", {"downlinks": [down]})
+
+    def to_device(self, publish: Publish, eui: str, name: str | None, port: int, payload: bytes) -> None:
+        self.push(publish, name, port, payload)
+
+    def to_group(self, publish: Publish, counts: range, count: int, port: int, payload: bytes) -> int | None:
+        gateways = [{"gateway_ids": {"gateway_id": name}} for name in self.gateways]
+        self.push(publish, self.multicast_device, port, payload, class_b_c={"gateways": gateways})
+        return None

@@ -1,1 +1,0 @@
-"""Campaigns of tools/run_campaign, for tests/run_campaign_test."""
