@@ -2,6 +2,7 @@
 import contextlib
 import importlib
 import io
+import os
 import pathlib
 import tomllib
 from dataclasses import dataclass
@@ -12,6 +13,8 @@ import common
 
 PYTHON = common.TOP / "python"
 FILE_DEVICE = common.TOP / "crates" / "file_device" / "out" / "file_device"
+# Commands that a test starts as processes find the package too.
+os.environ["PYTHONPATH"] = str(PYTHON)
 
 
 def pytest_addoption(parser):
