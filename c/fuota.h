@@ -1,11 +1,12 @@
 /* Firmware update over the air for LoRaWAN (TS003, TS004, TS005 and TS006, 1.0.0): a receiver of one file at a time, a
- * whole device, the server of a campaign, and payloads as text. docs/SAMPLES.md says how to build and link it.
+ * whole device, the server of a campaign, payloads as text, and the program as a call. docs/SAMPLES.md says how to build
+ * and link it.
  *
- * Each call is proved: with any argument that its types allow it does what crates/fuota_c/README.md and
- * crates/fuota_server_c/README.md say, nothing undefined, and returns. For processors of 32 bits the proved code is
- * translated, which nothing proves: docs/NARROW.md says how, and why it means the same.
+ * Each call is proved: with any argument that its types allow it does what the README.md of crates/fuota_c,
+ * crates/fuota_server_c and crates/fuota_run_c say, nothing undefined, and returns. For processors of 32 bits the proved
+ * code is translated, which nothing proves: docs/NARROW.md says how, and why it means the same.
  * Memory is taken by the calls _new and _restore alone, and given back by _free, and by _new and _restore of what was
- * there; fuota_decode takes memory for its text and gives it back.
+ * there; fuota_decode and fuota_run take memory and give it back before they return.
  * What C owes is written here, and nothing checks it:
  *   - a handle begins as { 0 }, as by its ..._NONE. It is not copied, and what is in it is neither read nor written by
  *     C;
@@ -489,6 +490,49 @@ typedef struct fuota_decoded {
 fuota_result fuota_decode(uint8_t port, bool up, const uint8_t *payload, fuota_length length, uint8_t *text,
                           fuota_length room, fuota_decoded *out);
 
+/* ---- The program as a call ---- */
+
+/* Bytes that stand in a struct: an address, by fuota_at, and after it their number. The address has 64 bits on each
+ * processor, and is not 0, even where the number is; so { 0 } is no such struct. */
+typedef struct fuota_word {
+    uint64_t bytes; /* UTF-8, without a 0 at the end */
+    fuota_length bytes_length;
+} fuota_word;
+
+typedef struct fuota_file {
+    uint64_t name;
+    fuota_length name_length;
+    uint64_t bytes;
+    fuota_length bytes_length;
+} fuota_file;
+
+/* How the program ends (docs/FORMATS.md, "Statuses"). A write fault and missing memory are never told here: the latter
+ * is an answer of the call, and the former none. */
+enum fuota_exit {
+    FUOTA_EXIT_DONE = 0,
+    FUOTA_EXIT_USAGE = 2,
+    FUOTA_EXIT_IMAGE_REFUSED = 3,
+    FUOTA_EXIT_SCRIPT_REFUSED = 4,
+    FUOTA_EXIT_READ_FAULT = 5,
+    FUOTA_EXIT_WRITE_FAULT = 6,
+    FUOTA_EXIT_MEMORY = 7,
+    FUOTA_EXIT_TOO_LONG = 8,
+    FUOTA_EXIT_NOT_COMPLETE = 9
+};
+
+typedef struct fuota_ran {
+    fuota_length length; /* bytes that the program wrote */
+    uint8_t status;      /* a value of enum fuota_exit */
+} fuota_ran;
+
+/* What the program `fuota` writes and ends with, for the words of a command line, the program's name first, over these
+ * files and no others: FUOTA_DONE, with what it wrote at the front of `text`, no 0 after it; FUOTA_NO_ROOM, where that has
+ * more than `room` bytes, and then *out alone is written; FUOTA_NO_MEMORY. A name that no file has cannot be read, and of
+ * two files of one name the first is read. A word that is no text is answered as by the program, with the usage. The call
+ * keeps nothing. It is not in libraries for microcontrollers. */
+fuota_result fuota_run(const fuota_word *words, fuota_length words_length, const fuota_file *files,
+                       fuota_length files_length, uint8_t *text, fuota_length room, fuota_ran *out);
+
 /* ---- NULL for no bytes ---- */
 
 /* Each call that takes bytes by a pointer and a number, where NULL may stand for none. */
@@ -606,6 +650,19 @@ static inline fuota_result fuota_decode_0(uint8_t port, bool up, const uint8_t *
     return fuota_decode(port, up, fuota_from(payload), length, fuota_into(text), room, out);
 }
 
+/* The address of bytes for a struct above; NULL has one too, for none. */
+static inline uint64_t fuota_at(const void *bytes) {
+    return (uint64_t)(uintptr_t)fuota_from((const uint8_t *)bytes);
+}
+
+static inline fuota_result fuota_run_0(const fuota_word *words, fuota_length words_length, const fuota_file *files,
+                                       fuota_length files_length, uint8_t *text, fuota_length room, fuota_ran *out) {
+    static const fuota_word no_word;
+    static const fuota_file no_file;
+    return fuota_run(words ? words : &no_word, words_length, files ? files : &no_file, files_length, fuota_into(text),
+                     room, out);
+}
+
 /* So calls go there by their own names. */
 #define fuota_receiver_hear fuota_receiver_hear_0
 #define fuota_receiver_file fuota_receiver_file_0
@@ -625,6 +682,7 @@ static inline fuota_result fuota_decode_0(uint8_t port, bool up, const uint8_t *
 #define fuota_server_save fuota_server_save_0
 #define fuota_server_restore fuota_server_restore_0
 #define fuota_decode fuota_decode_0
+#define fuota_run fuota_run_0
 
 #ifdef __cplusplus
 }

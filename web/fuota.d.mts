@@ -149,6 +149,26 @@ export const ImageState: {
 };
 export type ImageState = Values<typeof ImageState>;
 
+/** How the program ends; a write fault and missing memory never come here. */
+export const Exit: {
+  readonly DONE: 0;
+  /** The words are no form. */
+  readonly USAGE: 2;
+  /** An image is no image file. */
+  readonly IMAGE_REFUSED: 3;
+  /** A line of the script, or of the file of payloads, is refused. */
+  readonly SCRIPT_REFUSED: 4;
+  /** A file that the words name is not among the files. */
+  readonly READ_FAULT: 5;
+  readonly WRITE_FAULT: 6;
+  readonly MEMORY: 7;
+  /** A source is longer than its limit. */
+  readonly TOO_LONG: 8;
+  /** The device has no whole file. */
+  readonly NOT_COMPLETE: 9;
+};
+export type Exit = Values<typeof Exit>;
+
 // ---- Errors
 
 /** What a call answers where it does not do what it is for; `name` is that of its class. */
@@ -318,6 +338,12 @@ export interface Next {
   state: ImageState;
 }
 
+/** What the program wrote, and how it ended. */
+export interface Run {
+  status: Exit;
+  output: Uint8Array;
+}
+
 /** What a server is to do, but for its devices; a group and a window go together. */
 export interface Plan {
   /** McAddr, where `hasGroup`. */
@@ -416,6 +442,10 @@ export class Library {
   /** The commands of a payload of port 200 to 203, each on a line; `isUp` says that it goes from a device. Throws
    * {@link NoText} where the payload spells none. */
   decode(port: number, isUp: boolean, payload: Uint8Array): string;
+
+  /** What the program `fuota` does with the words behind its name, over files by their names and no others. Throws
+   * {@link NoMemory}. */
+  run(words: readonly (string | Uint8Array)[], files?: Readonly<Record<string, Uint8Array>> | ReadonlyMap<string, Uint8Array>): Run;
 }
 
 /** The places of the fields of each struct of fuota.h, in bytes, for who makes a call of {@link Library.exports} by himself. */

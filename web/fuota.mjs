@@ -18,6 +18,7 @@ const MINOR = 1;
 const LONGEST_BLOCK = 2 ** 31 - 1;
 const STATUS_LENGTH = 5;
 const FIRST_ROOM = 2048;
+const FIRST_OUTPUT = 65_536;
 
 export const Answer = Object.freeze({
   DONE: 0, NOTHING: 1, NO_OBJECT: 2, RANGE: 3, NO_ROOM: 4, NO_MEMORY: 5, REFUSED: 6, DEAF: 7, FULL: 8, SPENT: 9, CORRUPT: 10,
@@ -32,6 +33,10 @@ export const RequestKind = Object.freeze({
 });
 export const Why = Object.freeze({ PORT: 0, UNKNOWN: 1, SHORT: 2, TOO_LONG: 3 });
 export const ImageState = Object.freeze({ NONE: 0, CORRUPT: 1, INCOMPATIBLE: 2, VALID: 3 });
+export const Exit = Object.freeze({
+  DONE: 0, USAGE: 2, IMAGE_REFUSED: 3, SCRIPT_REFUSED: 4, READ_FAULT: 5, WRITE_FAULT: 6, MEMORY: 7, TOO_LONG: 8,
+  NOT_COMPLETE: 9,
+});
 
 // The name of a value of these.
 const nameOf = (values, number) => Object.keys(values).find((name) => values[name] === number) ?? String(number);
@@ -109,6 +114,21 @@ function payloadOf(value) {
   const { length } = bytesOf("payload", value);
   if (length > MAX_PAYLOAD) throw new OutOfRange(`the payload has ${length} bytes, and may have ${MAX_PAYLOAD}`);
   return value;
+}
+
+function textOf(name, value) {
+  if (typeof value !== "string") throw wrongType(name, value, "a string");
+  return new TextEncoder().encode(value);
+}
+
+// A word is a text, or bytes that may be none.
+const wordOf = (value) => (ArrayBuffer.isView(value) ? bytesOf("word", value) : textOf("word", value));
+
+// Files by their names, of an object or a Map.
+function filesOf(value) {
+  if (typeof value !== "object" || value === null) throw wrongType("files", value, "an object or a Map");
+  const all = value instanceof Map ? [...value] : Object.entries(value);
+  return all.map(([name, bytes]) => [textOf("name", name), bytesOf(name, bytes)]);
 }
 
 // The named values of an object, and no others.
@@ -238,6 +258,9 @@ const STATUS = new Struct("status", { received: U16, missing: U8, norows: BOOL }
 const DOWN = new Struct("down", { length: LENGTH, addr: U32, count: U32, port: U8, isGroup: BOOL, payload: PAYLOAD });
 const STAGE = new Struct("stage", { stage: U8, request: U8, bits: U8 });
 const DECODED = new Struct("decoded", { length: LENGTH, at: U16, why: U8 });
+const WORD = new Struct("word", { bytes: U64, bytesLength: LENGTH });
+const FILE = new Struct("file", { name: U64, nameLength: LENGTH, bytes: U64, bytesLength: LENGTH });
+const RAN = new Struct("ran", { length: LENGTH, status: U8 });
 // (places that a call writes a number to)
 const VERSION = new Struct("version", { version: U32 });
 const WRONG = new Struct("field", { field: U8 });
@@ -250,7 +273,8 @@ export const LAYOUT = Object.freeze({
   device: placesOf(HANDLE),
   server: placesOf(HANDLE),
   ...Object.fromEntries(
-    [VIEW, SETUP, CONFIG, ARRIVAL, UPLINK, PLAN, PLAN_DEVICE, COUNTS, NEXT, STATUS, DOWN, STAGE, DECODED]
+    [VIEW, SETUP, CONFIG, ARRIVAL, UPLINK, PLAN, PLAN_DEVICE, COUNTS, NEXT, STATUS, DOWN, STAGE, DECODED, WORD,
+      FILE, RAN]
       .map((struct) => [struct.name, placesOf(struct)]),
   ),
 });
@@ -287,6 +311,23 @@ function listOf(struct, all) {
   return new Placed(all.length * struct.size, {
     count: all.length,
     put: (view, at) => written.forEach((one, number) => struct.write(view, at + number * struct.size, one)),
+  });
+}
+
+// Structs of addresses with their lengths: what stands there comes after all of them.
+function addressed(struct, rows) {
+  const all = rows.flat();
+  return new Placed(rows.length * struct.size + all.reduce((sum, bytes) => sum + filledUp(bytes.length), 0), {
+    count: rows.length,
+    put(view, at) {
+      let to = at + rows.length * struct.size;
+      all.forEach((bytes, number) => {
+        view.setBigUint64(at + 16 * number, BigInt(to), true);
+        view.setBigUint64(at + 16 * number + 8, BigInt(bytes.length), true);
+        new Uint8Array(view.buffer, to, bytes.length).set(bytes);
+        to += filledUp(bytes.length);
+      });
+    },
   });
 }
 
@@ -346,6 +387,22 @@ export class Library {
       const { length, at, why } = out.value;
       if (answer === Answer.DONE) return new TextDecoder().decode(text.value.subarray(0, length));
       if (answer === Answer.REFUSED) throw new NoText(at, why);
+      if (answer !== Answer.NO_ROOM) throw new ERRORS[answer]();
+      room = length;
+    }
+  }
+
+  run(words, files = {}) {
+    if (!Array.isArray(words)) throw wrongType("words", words, "an array");
+    const line = ["fuota", ...words].map((word) => [wordOf(word)]);
+    const given = filesOf(files);
+    let room = FIRST_OUTPUT + 2 * given.reduce((sum, [, bytes]) => sum + bytes.length, 0);
+    for (;;) {
+      const output = roomFor(room);
+      const out = told(RAN);
+      const answer = callOf(this, "run", addressed(WORD, line), addressed(FILE, given), output, out);
+      const { length, status } = out.value;
+      if (answer === Answer.DONE) return { status, output: output.value.slice(0, length) };
       if (answer !== Answer.NO_ROOM) throw new ERRORS[answer]();
       room = length;
     }

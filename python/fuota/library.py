@@ -662,3 +662,67 @@ class Server(Object):
     def save(self) -> bytes:
         """What the server knows, to be kept before the payload of a call goes out. There is no key among it."""
         return self.copied("save", SAVED_SERVER)
+
+
+# ---- The program as a call
+
+
+CALLS += """uint8_t fuota_run(const fuota_word *, fuota_length, const fuota_file *, fuota_length, uint8_t *, fuota_length, fuota_ran *);
+"""
+
+
+class Exit(enum.IntEnum):
+    """How the program ends."""
+
+    EXIT_DONE, EXIT_USAGE, EXIT_IMAGE_REFUSED, EXIT_SCRIPT_REFUSED, EXIT_READ_FAULT = 0, 2, 3, 4, 5
+    EXIT_WRITE_FAULT, EXIT_MEMORY, EXIT_TOO_LONG, EXIT_NOT_COMPLETE = 6, 7, 8, 9
+
+
+class Word(Struct):
+    """A word of a command line, by its address."""
+
+    _fields_ = [("bytes", U64), ("bytes_length", LENGTH)]
+
+
+class File(Struct):
+    """A file by its name, both by their addresses."""
+
+    _fields_ = [("name", U64), ("name_length", LENGTH), ("bytes", U64), ("bytes_length", LENGTH)]
+
+
+class Ran(Struct):
+    """What `fuota_run` tells."""
+
+    _fields_ = [("length", LENGTH), ("status", U8)]
+
+
+STRUCTS.update({"fuota_word": Word, "fuota_file": File, "fuota_ran": Ran})
+ENUMS["exit"] = Exit
+# The room for what the program writes is this at first, and twice as much as it reads.
+FIRST_ROOM = 65_536
+
+
+def run(words, files, library=None):
+    """What the program `fuota` does with the words behind its name, over files by their names and no others: its `Exit`, and the
+    bytes that it writes."""
+    kept = []
+
+    def placed(data):
+        block, length = held(data)
+        kept.append(block)
+        return ctypes.addressof(block), length
+
+    told = [placed(os.fsencode(word)) for word in ("fuota", *words)]
+    given = [(*placed(os.fsencode(name)), *placed(data)) for name, data in files.items()]
+    line = (Word * len(told))(*(Word(bytes=at, bytes_length=length) for at, length in told))
+    named = (File * max(1, len(given)))(*(File(**dict(zip(dict(File._fields_), one))) for one in given))
+    library, out = library_of(library), Ran()
+    room = FIRST_ROOM + 2 * sum(len(data) for data in files.values())
+    while True:
+        text = (U8 * room)()
+        answer = library.call("run", line, len(told), named, len(given), text, room, ctypes.byref(out))
+        if answer == Answer.DONE:
+            return Exit(out.status), ctypes.string_at(text, out.length)
+        if answer != Answer.NO_ROOM:
+            raise ERRORS[answer]()
+        room = out.length

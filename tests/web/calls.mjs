@@ -35,7 +35,7 @@ const SMALL = { size: Size.SMALL };
 // (with room for the records of small sessions)
 const SPAN = 30_000;
 const FLASH = { ...SMALL, span: SPAN, flash: new Uint8Array(4 * SPAN) };
-const STACK = 65_536;
+const STACK = 524_288;
 const KEYS = [new Uint8Array(16), { key: new Uint8Array(16), isV11: true }];
 const PLAN = { fragSize: 13, parity: 1 };
 const GROUP = { addr: 5, min: 0, max: 3, hasGroup: true, hasWindow: true };
@@ -380,6 +380,31 @@ await tried("what the module is read from", async () => {
   } finally {
     web.close();
   }
+});
+
+await tried("the program as a call", () => {
+  const { Exit } = fuota;
+  const said = (words, files) => {
+    const { status, output } = library.run(words, files);
+    return [status, new TextDecoder().decode(output)];
+  };
+  const payload = new TextEncoder().encode("01\n");
+  const text = "line 1\nDevVersionReq\nend\n";
+  assert.deepEqual(said(["decode", "203", "down", "file"], { file: payload }), [Exit.DONE, text]);
+  assert.deepEqual(said(["decode", "203", "down", "--", "-"], new Map([["-", payload]])), [Exit.DONE, text]);
+  assert.deepEqual(said(["decode", "203", "down", "file"], { other: payload }), [Exit.READ_FAULT, "read fault\n"]);
+  assert.deepEqual(said(["campaign", "image", "script"], { image }), [Exit.READ_FAULT, "read fault\n"]);
+  assert.deepEqual(said(["campaign", "image", "script"], { image: payload }), [Exit.IMAGE_REFUSED, "image refused\n"]);
+  assert.deepEqual(said(["capture", "file"], { file: new Uint8Array(1_048_577) }), [Exit.TOO_LONG, "too long 1048577\n"]);
+  assert.equal(said([])[0], Exit.USAGE);
+  assert.equal(said([Uint8Array.of(255)])[0], Exit.USAGE);
+  // (longer than the room that is there at first)
+  const many = new TextEncoder().encode(`${"00".repeat(242)}\n`.repeat(300));
+  assert(said(["decode", "200", "down", "file"], { file: many })[1].length > 1_000_000);
+  throws("TypeError", () => library.run("capture"), /words is "capture", and not an array/);
+  throws("TypeError", () => library.run([5]), /word is 5, and not a string/);
+  throws("TypeError", () => library.run(["capture"], { file: "text" }), /file is "text", and not a Uint8Array/);
+  throws("TypeError", () => library.run(["capture"], null), /files is null, and not an object or a Map/);
 });
 
 await tried("another version", () => {

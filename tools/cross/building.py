@@ -14,7 +14,7 @@ C = HERE.parent.parent / "c"
 HEAP = ("fuota_heap_take", "fuota_heap_give", "fuota_heap_used")
 # (The toolchain's clang has no headers, so the few that c/ takes are here.)
 FREE = ("-ffreestanding", "-nostdinc", "-isystem", str(HERE / "include"))
-STACK, FIRST_HEAP, LONGEST_MEMORY = 65536, 65536, 2**31
+STACK, FIRST_HEAP, LONGEST_MEMORY = 524288, 65536, 2**31
 
 
 def run(*words: str | pathlib.Path, by: pathlib.Path | None = None) -> str:
@@ -72,18 +72,21 @@ def archive(modules: list[pathlib.Path], name: str, level: str, place: pathlib.P
     return made
 
 
-def wasm(modules: list[pathlib.Path], name: str, level: str, place: pathlib.Path) -> pathlib.Path:
-    """fuota.wasm, in a folder, of the kept modules of the crates."""
+def wasm(modules: list[pathlib.Path], name: str, level: str, place: pathlib.Path,
+         calls: tuple[str, ...] | None = None) -> pathlib.Path:
+    """fuota.wasm, in a folder, of the kept modules of the crates, with these calls, or with all."""
     assert TARGETS[name].way is Way.WEB
     objects = [*(translated(module, name, level, place) for module in modules),
-               *(compiled(source, name, level, place) for source in ("pointer_bits.c", "area_heap.c"))]
-    return linked_wasm(objects, place)
+               *(compiled(source, name, level, place) for source in ("pointer_bits.c", "area_heap.c", "wide.c"))]
+    return linked_wasm(objects, place, calls=calls)
 
 
-def linked_wasm(objects: list[pathlib.Path], place: pathlib.Path, more: tuple[str, ...] = ()) -> pathlib.Path:
-    """fuota.wasm, in a folder: it imports nothing, and has a heap that grows. `more` are words of the linker. (The stack is
-    below all else, so that what runs out of it ends, and no address is above 2^31.)"""
-    calls = re.findall(r"^\w+ (fuota_\w+)\(", (C / "fuota.h").read_text(), re.M)
+def linked_wasm(objects: list[pathlib.Path], place: pathlib.Path, more: tuple[str, ...] = (),
+                calls: tuple[str, ...] | None = None) -> pathlib.Path:
+    """fuota.wasm, in a folder: it imports nothing, and has a heap that grows. `more` are words of the linker, and `calls` what
+    it hands out, or all of the header. (The stack is below all else, so that what runs out of it ends, and no address is above
+    2^31.)"""
+    calls = calls or tuple(re.findall(r"^\w+ (fuota_\w+)\(", (C / "fuota.h").read_text(), re.M))
     made = place / "fuota.wasm"
     run("ld.lld", "-flavor", "wasm", "--no-entry", "--gc-sections", "--strip-all", "--stack-first", "-z", f"stack-size={STACK}",
         f"--initial-heap={FIRST_HEAP}", f"--max-memory={LONGEST_MEMORY}", *(f"--export={call}" for call in (*calls, *HEAP)),

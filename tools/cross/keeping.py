@@ -17,8 +17,9 @@ import sys
 import tempfile
 
 CRATES = pathlib.Path(__file__).resolve().parent.parent.parent / "crates"
-# The crates of the library for C.
+# The crates of the library for C, and with the program as a call, which the libraries for microcontrollers leave out.
 NAMES = ("fuota_c", "fuota_server_c")
+ALL = (*NAMES, "fuota_run_c")
 # What decides where rt takes the kit to be, so no links.
 COPIED = ("rt", "rtlib.py")
 KEPT = "rattle-kept"
@@ -127,9 +128,9 @@ def take_kept() -> None:
         print(f"what rt ci kept was not taken over: {fault}", file=sys.stderr)
 
 
-def modules() -> list[pathlib.Path]:
-    """The modules of the library's crates, which are proved where none is kept of what they are now."""
-    crates = [CRATES / name for name in NAMES]
+def modules(names: tuple[str, ...] = NAMES) -> list[pathlib.Path]:
+    """The modules of these crates, which are proved where none is kept of what they are now."""
+    crates = [CRATES / name for name in names]
     missing = [crate for crate in crates if not is_kept(crate)]
     if missing:
         take_kept()

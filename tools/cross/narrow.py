@@ -12,13 +12,16 @@ from .targets import Target
 
 NAME = r'%(?:"[^"]*"|[\w.]+)'
 GLOBAL = r'@(?:"[^"]*"|[\w.$]+)'
-INT = r"i(?:1|8|16|32|64)"
+INT = r"i(?:1|8|16|32|64|128)"
+# An integer or a float: binary64 means the same on each of these processors, bits of a NaN aside.
+NUMBER = rf"(?:{INT}|double)"
 BYTES, BITS = r"<\d+ x i8>", r"<\d+ x i1>"
 VECTOR = r"<\d+ x i(?:8|64)>"
-WHOLE = rf"(?:{INT}|{VECTOR})"
-PARTS = rf"\{{ (?:{INT}|ptr)(?:, (?:{INT}|ptr))+ \}}"
-KIND = rf"(?:{INT}|ptr|{PARTS})"
-VALUE = rf"(?:{NAME}|{GLOBAL}|-?\d+|true|false|null|undef|poison|zeroinitializer|splat \(i8 -?\d+\))"
+WHOLE = rf"(?:{NUMBER}|{VECTOR})"
+PARTS = rf"\{{ (?:{NUMBER}|ptr)(?:, (?:{NUMBER}|ptr))+ \}}"
+KIND = rf"(?:{NUMBER}|ptr|{PARTS})"
+FLOAT = r"-?\d+\.\d+e[+-]\d+|0x[0-9A-F]{16}"
+VALUE = rf"(?:{NAME}|{GLOBAL}|{FLOAT}|-?\d+|true|false|null|undef|poison|zeroinitializer|splat \(i8 -?\d+\))"
 META = r"(?:, ![\w.]+ !\d+)*"
 PLACE = rf"ptr ({VALUE}), align (\d+)"
 LABEL = r'(?:"[^"]*"|[\w.]+)'
@@ -35,11 +38,17 @@ PLAIN = [re.compile(form) for form in (
     rf"  {NAME} = icmp \w+ {INT} {VALUE}, {VALUE}",
     rf"  {NAME} = icmp (?:eq|ne) ptr {VALUE}, {VALUE}",
     rf"  {NAME} = (?:zext|sext|trunc)(?: nneg| nuw| nsw)* {INT} {VALUE} to {INT}",
+    rf"  {NAME} = (?:fadd|fsub|fmul|fdiv) double {VALUE}, {VALUE}",
+    rf"  {NAME} = fneg double {VALUE}",
+    rf"  {NAME} = fcmp \w+ double {VALUE}, {VALUE}",
+    rf"  {NAME} = [us]itofp {INT} {VALUE} to double",
+    rf"  {NAME} = fpto[us]i double {VALUE} to {INT}",
+    rf"  {NAME} = bitcast (?:i64 {VALUE} to double|double {VALUE} to i64)",
     rf"  {NAME} = freeze {INT} {VALUE}",
-    rf"  {NAME} = select i1 {VALUE}, ({INT}|ptr) {VALUE}, \1 {VALUE}",
-    rf"  {NAME} = phi (?:{INT}|ptr) \[ {VALUE}, {NAME} \](?:, \[ {VALUE}, {NAME} \])*",
+    rf"  {NAME} = select i1 {VALUE}, ({NUMBER}|ptr) {VALUE}, \1 {VALUE}",
+    rf"  {NAME} = phi (?:{NUMBER}|ptr) \[ {VALUE}, {NAME} \](?:, \[ {VALUE}, {NAME} \])*",
     rf"  {NAME} = extractvalue {PARTS} {VALUE}, \d+",
-    rf"  {NAME} = insertvalue {PARTS} {VALUE}, (?:{INT}|ptr) {VALUE}, \d+",
+    rf"  {NAME} = insertvalue {PARTS} {VALUE}, (?:{NUMBER}|ptr) {VALUE}, \d+",
     rf"  {NAME} = extractelement {VECTOR} {VALUE}, i\d+ {VALUE}",
     rf"  {NAME} = insertelement {VECTOR} {VALUE}, {INT} {VALUE}, i\d+ {VALUE}",
     rf"  {NAME} = shufflevector {BYTES} {VALUE}, {BYTES} {VALUE}, <\d+ x i32> (?:zeroinitializer|<i32 \d+(?:, i32 \d+)*>)",
@@ -52,9 +61,9 @@ PLAIN = [re.compile(form) for form in (
     rf"  {NAME} = inttoptr i64 {VALUE} to ptr",
     # (an index is cut to 32 bits by LLVM, as the layout says)
     rf"  {NAME} = getelementptr (?:inbounds )?(?:nuw )?(?:i8|\[\d+ x i8\]), ptr {VALUE}, i64 {VALUE}",
-    rf"  {NAME} = alloca (?:{INT}|\[\d+ x i8\]), align \d+",
+    rf"  {NAME} = alloca (?:{NUMBER}|\[\d+ x i8\]), align \d+",
     rf"  {NAME} = load {WHOLE}, ptr {VALUE}, align \d+{META}",
-    rf"  store (?:{WHOLE}|i128) {VALUE}, ptr {VALUE}, align \d+",
+    rf"  store {WHOLE} {VALUE}, ptr {VALUE}, align \d+",
     rf"  (?:{NAME} = )?call {RESULT} (?:{CALLED})\((?:{GIVEN}(?:, {GIVEN})*)?\)(?: #\d+)?",
     rf"  br label {NAME}",
     rf"  br i1 {VALUE}, label {NAME}, label {NAME}",
@@ -70,6 +79,7 @@ PLAIN = [re.compile(form) for form in (
 CONSTANT = "private (?:unnamed_addr )?constant"
 # What a pointer in a constant points to: a constant, or so many bytes after its front, where they stand here too.
 POINTED = rf"ptr (?:{GLOBAL}|getelementptr \(i8, ptr {GLOBAL}, i64 \d+\))"
+FENCE = r"llvm\.arithmetic\.fence\.f64"
 COUNTED = r"llvm\.(memset|memmove|memcpy)\.(p0(?:\.p0)?)"
 PARAMETERS = r"[\w ,()]*"
 # Of a function's attributes, those that are of x86-64, or say what its frame does there.
@@ -143,7 +153,7 @@ def places(kind: str) -> list[tuple[str, int]]:
     pointer."""
     at, told = 0, []
     for part in kind[2:-2].split(", "):
-        size = 8 if part == "ptr" else (int(part[1:]) + 7) // 8
+        size = 8 if part in ("ptr", "double") else (int(part[1:]) + 7) // 8
         at += -at % size
         told.append((part, at))
         at += size
@@ -164,6 +174,7 @@ class Narrow:
             (rf"  store ({PARTS}) ({VALUE}), {PLACE}", self.store_parts),
             (rf"  call void @{COUNTED}\.i64\((.*), i64 ({VALUE}), i1 false\)", self.counted),
             (rf"  ({NAME}) = ptrtoaddr ptr ({VALUE}) to i64", self.address),
+            (rf"  ({NAME}) = call double @{FENCE}\(double ({VALUE})\)(?: #\d+)?", self.fence),
         ]
         by_words: list[tuple[str, Callable[[re.Match[str]], list[str]]]] = [
             (rf"  ({NAME}) = load <(\d+) x i8>, {PLACE}{META}", self.load_words),
@@ -204,6 +215,10 @@ class Narrow:
 
     def address(self, it: re.Match[str]) -> list[str]:
         return [f"  {it[1]} = ptrtoint ptr {it[2]} to i64"]
+
+    def fence(self, it: re.Match[str]) -> list[str]:
+        """It keeps sums from being regrouped, which nobody does here: no line has a flag that allows it."""
+        return [f"  {it[1]} = bitcast double {it[2]} to double"]
 
     def load_parts(self, it: re.Match[str]) -> list[str]:
         """Each part by itself, at the place that it has on x86-64."""
@@ -330,6 +345,8 @@ def declared(line: str, bits: int) -> str:
         return line if bits == 64 else f"declare void @llvm.{it[1]}.{it[2]}.i32({it[3]}, i32, i1 immarg){it[4]}"
     if re.fullmatch(rf"declare (?:void @llvm\.trap|i\d+ @{NUMBERS})\({PARAMETERS}\)(?: #\d+)", line):
         return line
+    if re.fullmatch(rf"declare double @{FENCE}\(double\)(?: #\d+)", line):
+        return line if bits == 64 else ""
     heap = HEAP.get(re.sub(r" #\d+$", "", line))
     if not heap:
         raise Refused(line)
