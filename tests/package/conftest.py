@@ -2,6 +2,7 @@
 import contextlib
 import importlib
 import io
+import os
 import pathlib
 import tomllib
 from dataclasses import dataclass
@@ -11,6 +12,8 @@ import pytest
 import common
 
 PYTHON = common.TOP / "python"
+# (for the commands that a test begins as processes)
+os.environ["PYTHONPATH"] = str(PYTHON)
 FILE_DEVICE = common.TOP / "crates" / "file_device" / "out" / "file_device"
 
 
