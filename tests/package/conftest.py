@@ -12,6 +12,8 @@ import pytest
 import common
 
 PYTHON = common.TOP / "python"
+# (for the commands that a test begins as processes)
+os.environ["PYTHONPATH"] = str(PYTHON)
 FILE_DEVICE = common.TOP / "crates" / "file_device" / "out" / "file_device"
 # Commands that a test starts as processes find the package too.
 os.environ["PYTHONPATH"] = str(PYTHON)

@@ -16,9 +16,9 @@ pytestmark = pytest.mark.xdist_group("wheel")
 def installed(library, tmp_path_factory):
     """The folder of the commands, once the wheel was made and installed, and no network was asked."""
     folder = tmp_path_factory.mktemp("wheel")
-    missing = subprocess.run([sys.executable, "-c", "import setuptools, wheel, pip, ensurepip"], capture_output=True, text=True).stderr
-    if missing:
-        pytest.skip(missing.splitlines()[-1])
+    looked = subprocess.run([sys.executable, "-c", "import setuptools, wheel, pip, ensurepip"], capture_output=True, text=True)
+    if looked.returncode:
+        pytest.skip(looked.stderr.splitlines()[-1])
     subprocess.run([sys.executable, TOP / "tools" / "wheel", folder], check=True, env={**os.environ, "FUOTA_LIBRARY": str(library)})
     made = list(folder.iterdir())
     assert [path.name for path in made] == [f"fuota-{fuota.__version__}-py3-none-linux_x86_64.whl"]
@@ -47,7 +47,7 @@ def test_version(run):
 def test_rehearsal(run, tmp_path):
     """A campaign is rehearsed from nothing, with the library of the wheel."""
     (tmp_path / "plan.toml").write_text(run("fuota-campaign", "sample").stdout)
-    (tmp_path / "body").write_bytes(b"1\n" * 600)
+    (tmp_path / "body").write_text("".join(f"{number}\n" for number in range(1, 1201)))
     assert run("fuota-image", "body", "1", "1", "7", "image").returncode == 0
     assert run("fuota-campaign", "check", "plan.toml").returncode == 0
     done = run("fuota-campaign", "rehearse", "plan.toml", "state", "--loss", "10")
