@@ -15,8 +15,6 @@ PYTHON = common.TOP / "python"
 # (for the commands that a test begins as processes)
 os.environ["PYTHONPATH"] = str(PYTHON)
 FILE_DEVICE = common.TOP / "crates" / "file_device" / "out" / "file_device"
-# Commands that a test starts as processes find the package too.
-os.environ["PYTHONPATH"] = str(PYTHON)
 
 
 def pytest_addoption(parser):

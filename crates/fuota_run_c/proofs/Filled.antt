@@ -4,7 +4,7 @@ use Rattle.fuota_run.specs.Answer.{Answer, answer, IsAnswer, IsAnswerTo, IsFileA
 use Rattle.fuota_run.specs.Limits.{image_limit, script_limit}
 use Rattle.fuota_run.specs.Memory.{Named, held_by}
 use Rattle.fuota_run.specs.Words.{Invocation, plays, payloads, generates, plays_two, asked}
-use Rattle.image_slots.specs.Image.{is_image}
+use Rattle.image_slots.specs.Image.{is_image, further, format_of}
 use Rattle.fuota_run.specs.declared.forms.ScriptForm.{ScriptForm}
 use Rattle.fuota_run.specs.declared.forms.ScriptForm.TheVariants.{Campaign, Recover}
 use Rattle.campaign_world.specs.World.{WorldState}
@@ -27,7 +27,7 @@ beyond_image : (long : List ℕ) → IsBeyond long → nat_lt image_limit (lengt
 beyond_image long is = rw (is) refl
 
 no_image : is_image [] ≡ false
-unfolding is_image
+unfolding is_image further format_of
 no_image = refl
 
 -- x is the answer over the files alone, l and e those where other names hold more than any source may have, and nothing
