@@ -78,7 +78,7 @@ of_script what b o long is =
 
 of_campaign : (what : ScriptForm) (i s : Option (List ℕ)) (long : List ℕ) → IsBeyond long
     → Settles (campaign_answer what i s) (campaign_answer what (Some (unwrap_or i long)) (Some (unwrap_or s long)))
-        (campaign_answer what (Some (unwrap_or i [])) (Some (unwrap_or s [])))
+    (campaign_answer what (Some (unwrap_or i [])) (Some (unwrap_or s [])))
 unfolding campaign_answer
 of_campaign what i s long is = image i long _ _ _ is (λ b. of_script what b s long is)
 
@@ -89,7 +89,7 @@ of_pair_script a b o long is = script o long _ _ _ is (played_short pair_answer 
 
 of_pair : (a b s : Option (List ℕ)) (long : List ℕ) → IsBeyond long
     → Settles (campaigns_answer a b s) (campaigns_answer (Some (unwrap_or a long)) (Some (unwrap_or b long)) (Some (unwrap_or s long)))
-        (campaigns_answer (Some (unwrap_or a [])) (Some (unwrap_or b [])) (Some (unwrap_or s [])))
+    (campaigns_answer (Some (unwrap_or a [])) (Some (unwrap_or b [])) (Some (unwrap_or s [])))
 unfolding campaigns_answer
 of_pair a b s long is = image a long _ _ _ is (λ x. image b long _ _ _ is (λ y. of_pair_script x y s long is))
 
