@@ -15,7 +15,7 @@ import enum
 import os
 import pathlib
 import re
-from collections.abc import Iterable
+from collections.abc import Iterable, Mapping
 from types import TracebackType
 from typing import Any, ClassVar, Self, TypeVar
 
@@ -702,12 +702,12 @@ ENUMS["exit"] = Exit
 FIRST_ROOM = 65_536
 
 
-def run(words, files, library=None):
+def run(words: Iterable[str | bytes], files: Mapping[str, bytes], library: Library | Path | None = None) -> tuple[Exit, bytes]:
     """What the program `fuota` does with the words behind its name, over files by their names and no others: its `Exit`, and the
     bytes that it writes."""
-    kept = []
+    kept: list[Any] = []
 
-    def placed(data):
+    def placed(data: bytes) -> tuple[int, int]:
         block, length = held(data)
         kept.append(block)
         return ctypes.addressof(block), length
