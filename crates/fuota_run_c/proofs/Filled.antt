@@ -1,6 +1,6 @@
 -- The answer over the files alone, from answers where each name holds something: first more than any source may have, then nothing.
 use Rattle.std.proofs.Common.{◌≡◌, ℕ, nat_lt, Bool, true, false, if◌then◌else◌, List, [], length, Option, None, Some, unwrap_or, Result, Ok, Err, refl, sym, ap, ◌∙◌}
-use Rattle.fuota_run.specs.Answer.{Answer, answer, IsAnswer, IsAnswerTo, IsFileAnswer, IsReadAnswer, behind_image, behind_script, campaign_answer, campaigns_answer, file_text, image_refused, pair_answer, pair_script_answer, played, read_fault, recovered, script_answer, text_answer, too_long, world_answer}
+use Rattle.fuota_run.specs.Answer.{Answer, IsAnswer, IsAnswerTo, IsFileAnswer, IsReadAnswer, behind_image, behind_script, campaign_answer, campaigns_answer, file_text, image_refused, pair_answer, pair_script_answer, played, read_fault, recovered, script_answer, text_answer, too_long, world_answer}
 use Rattle.fuota_run.specs.Limits.{image_limit, script_limit}
 use Rattle.fuota_run.specs.Memory.{Named, held_by}
 use Rattle.fuota_run.specs.Words.{Invocation, plays, payloads, generates, plays_two, asked}
@@ -78,7 +78,7 @@ of_script what b o long is =
 
 of_campaign : (what : ScriptForm) (i s : Option (List ℕ)) (long : List ℕ) → IsBeyond long
     → Settles (campaign_answer what i s) (campaign_answer what (Some (unwrap_or i long)) (Some (unwrap_or s long)))
-        (campaign_answer what (Some (unwrap_or i [])) (Some (unwrap_or s [])))
+    (campaign_answer what (Some (unwrap_or i [])) (Some (unwrap_or s [])))
 unfolding campaign_answer
 of_campaign what i s long is = image i long _ _ _ is (λ b. of_script what b s long is)
 
@@ -89,7 +89,7 @@ of_pair_script a b o long is = script o long _ _ _ is (played_short pair_answer 
 
 of_pair : (a b s : Option (List ℕ)) (long : List ℕ) → IsBeyond long
     → Settles (campaigns_answer a b s) (campaigns_answer (Some (unwrap_or a long)) (Some (unwrap_or b long)) (Some (unwrap_or s long)))
-        (campaigns_answer (Some (unwrap_or a [])) (Some (unwrap_or b [])) (Some (unwrap_or s [])))
+    (campaigns_answer (Some (unwrap_or a [])) (Some (unwrap_or b [])) (Some (unwrap_or s [])))
 unfolding campaigns_answer
 of_pair a b s long is = image a long _ _ _ is (λ x. image b long _ _ _ is (λ y. of_pair_script x y s long is))
 

@@ -28,11 +28,7 @@ const READ_FAULT: &str = "read fault\n";
 /// For `run` each name holds something. So a name that is not there holds first more than any source may have: where such a name
 /// is read, the answer is that it is too long. That may be said of a file that is there too, so the run is made again with nothing
 /// under such names, which is never too long.
-pub fn answer(
-    alloc: Global,
-    words: &[String],
-    files: &[FileFields],
-) -> Result<Ran, AllocError>
+pub fn answer(alloc: Global, words: &[String], files: &[FileFields]) -> Result<Ran, AllocError>
     ensures { IfOk result (λ ran. IsAnswer (map string_bytes words.now)
         (held_by (files_in files.now)) (answer_in ran)) }
 {

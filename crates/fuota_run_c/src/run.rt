@@ -46,11 +46,7 @@ pub extern "C" fn fuota_run(
     DONE
 }
 
-fn ran_over(
-    alloc: Global,
-    words: &[WordFields],
-    files: &[FileFields],
-) -> Result<Ran, AllocError>
+fn ran_over(alloc: Global, words: &[WordFields], files: &[FileFields]) -> Result<Ran, AllocError>
     ensures { IfOk result (λ ran. IsProgrammed (words_in words.now) (files_in files.now)
         (answer_in ran)) }
 {

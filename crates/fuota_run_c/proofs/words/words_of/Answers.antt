@@ -15,13 +15,14 @@ returns-in_default c = record {
 pub loop-word-preserved : goal.loop-word-preserved
 loop-word-preserved c =
     let text : string_bytes c.in_ok-from_str.field-0 ≡ _ = c.in_ok-from_str.ensures.ok ∙ c.in-Ok.ensures.cases.0 in
-    let more = map_more (λ (w : WordFields). w.bytes.now) c.args.told.now c.loop-word.word-index _ c.loop-word-test.true in
-    (ap (map string_bytes) c.in_ok-push.ensures.items
-    ∙ map-append string_bytes c.loop-word.words.items (c.in_ok-from_str.field-0 ∷ [])
-    ∙ ap (λ ws. ws ++ string_bytes c.in_ok-from_str.field-0 ∷ []) c.loop-word.invariant.0
-    ∙ ap (λ b. words_in (take c.loop-word.word-index c.args.told.now) ++ b ∷ []) text
-    ∙ sym more,
-    texts_more _ _ _ c.loop-word-test.true c.loop-word.invariant.1 c.in-Ok.ensures.cases.1)
+    let more = map_more (λ (w : WordFields). w.bytes.now) c.args.told.now c.loop-word.word-index _ c.loop-word-test.true in (
+      ap (map string_bytes) c.in_ok-push.ensures.items
+          ∙ map-append string_bytes c.loop-word.words.items (c.in_ok-from_str.field-0 ∷ [])
+          ∙ ap (λ ws. ws ++ string_bytes c.in_ok-from_str.field-0 ∷ []) c.loop-word.invariant.0
+          ∙ ap (λ b. words_in (take c.loop-word.word-index c.args.told.now) ++ b ∷ []) text
+          ∙ sym more,
+      texts_more _ _ _ c.loop-word-test.true c.loop-word.invariant.1 c.in-Ok.ensures.cases.1,
+    )
 
 pub returns : goal.returns
 returns c =
