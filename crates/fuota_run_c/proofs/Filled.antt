@@ -1,6 +1,6 @@
 -- The answer over the files alone, from answers where each name holds something: first more than any source may have, then nothing.
 use Rattle.std.proofs.Common.{◌≡◌, ℕ, nat_lt, Bool, true, false, if◌then◌else◌, List, [], length, Option, None, Some, unwrap_or, Result, Ok, Err, refl, sym, ap, ◌∙◌}
-use Rattle.fuota_run.specs.Answer.{Answer, answer, IsAnswer, IsAnswerTo, IsFileAnswer, IsReadAnswer, behind_image, behind_script, campaign_answer, campaigns_answer, file_text, image_refused, pair_answer, pair_script_answer, played, read_fault, recovered, script_answer, text_answer, too_long, world_answer}
+use Rattle.fuota_run.specs.Answer.{Answer, IsAnswer, IsAnswerTo, IsFileAnswer, IsReadAnswer, behind_image, behind_script, campaign_answer, campaigns_answer, file_text, image_refused, pair_answer, pair_script_answer, played, read_fault, recovered, script_answer, text_answer, too_long, world_answer}
 use Rattle.fuota_run.specs.Limits.{image_limit, script_limit}
 use Rattle.fuota_run.specs.Memory.{Named, held_by}
 use Rattle.fuota_run.specs.Words.{Invocation, plays, payloads, generates, plays_two, asked}
