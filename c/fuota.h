@@ -657,8 +657,8 @@ static inline uint64_t fuota_at(const void *bytes) {
 
 static inline fuota_result fuota_run_0(const fuota_word *words, fuota_length words_length, const fuota_file *files,
                                        fuota_length files_length, uint8_t *text, fuota_length room, fuota_ran *out) {
-    static const fuota_word no_word;
-    static const fuota_file no_file;
+    static const fuota_word no_word = {0, 0};
+    static const fuota_file no_file = {0, 0, 0, 0};
     return fuota_run(words ? words : &no_word, words_length, files ? files : &no_file, files_length, fuota_into(text),
                      room, out);
 }
