@@ -19,8 +19,8 @@
  *   - malloc, realloc and free come from one allocator, and align a block to each power of two up to 16 that divides
  *     its size;
  *   - no call comes from a signal handler, or from the forked child of a process with threads;
- *   - there is stack for the call: docs/SAMPLES.md says how much. fuota_device_restore takes the most, 10 KB, for which a
- *     thread of Linux wants 16 KB.
+ *   - there is stack for the call: docs/SAMPLES.md says how much. fuota_run takes the most, up to 125 KB, and of the others
+ *     fuota_device_restore, 10 KB, for which a thread of Linux wants 16 KB.
  * Numbers in structs are in the byte order of the machine; payloads, keys and saved bytes are bytes in their order.
  */
 #ifndef FUOTA_H
@@ -652,13 +652,13 @@ static inline fuota_result fuota_decode_0(uint8_t port, bool up, const uint8_t *
 
 /* The address of bytes for a struct above; NULL has one too, for none. */
 static inline uint64_t fuota_at(const void *bytes) {
-    return (uint64_t)(uintptr_t)fuota_from((const uint8_t *)bytes);
+    return (uint64_t)(size_t)fuota_from((const uint8_t *)bytes);
 }
 
 static inline fuota_result fuota_run_0(const fuota_word *words, fuota_length words_length, const fuota_file *files,
                                        fuota_length files_length, uint8_t *text, fuota_length room, fuota_ran *out) {
-    static const fuota_word no_word;
-    static const fuota_file no_file;
+    static const fuota_word no_word = {0, 0};
+    static const fuota_file no_file = {0, 0, 0, 0};
     return fuota_run(words ? words : &no_word, words_length, files ? files : &no_file, files_length, fuota_into(text),
                      room, out);
 }
