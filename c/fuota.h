@@ -19,8 +19,8 @@
  *   - malloc, realloc and free come from one allocator, and align a block to each power of two up to 16 that divides
  *     its size;
  *   - no call comes from a signal handler, or from the forked child of a process with threads;
- *   - there is stack for the call: docs/SAMPLES.md says how much. fuota_device_restore takes the most, 10 KB, for which a
- *     thread of Linux wants 16 KB.
+ *   - there is stack for the call: docs/SAMPLES.md says how much. fuota_run takes the most, up to 125 KB, and of the others
+ *     fuota_device_restore, 10 KB, for which a thread of Linux wants 16 KB.
  * Numbers in structs are in the byte order of the machine; payloads, keys and saved bytes are bytes in their order.
  */
 #ifndef FUOTA_H
@@ -652,7 +652,7 @@ static inline fuota_result fuota_decode_0(uint8_t port, bool up, const uint8_t *
 
 /* The address of bytes for a struct above; NULL has one too, for none. */
 static inline uint64_t fuota_at(const void *bytes) {
-    return (uint64_t)(uintptr_t)fuota_from((const uint8_t *)bytes);
+    return (uint64_t)(size_t)fuota_from((const uint8_t *)bytes);
 }
 
 static inline fuota_result fuota_run_0(const fuota_word *words, fuota_length words_length, const fuota_file *files,

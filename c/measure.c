@@ -104,6 +104,20 @@ static void server_restore(void) {
 }
 static void library_version(void) { version = fuota_version(); }
 static void library_pointer_bits(void) { version = fuota_pointer_bits(); }
+/* A capture whose last line is nested as deep as JSON may be there. */
+enum { LEVELS = 126 };
+static char nested[512];
+static void run(void) {
+    static const char front[] = "capture 1 0\n{\"port\":7,\"dir\":\"up\",\"hex\":\"\",\"x\":";
+    fuota_word words[3] = {{fuota_at("fuota"), 5}, {fuota_at("capture"), 7}, {fuota_at("log"), 3}};
+    fuota_file log = {fuota_at("log"), 3, fuota_at(nested), sizeof front - 1 + 2 * LEVELS + 1};
+    fuota_ran ran;
+    memcpy(nested, front, sizeof front - 1);
+    memset(nested + sizeof front - 1, '[', LEVELS);
+    memset(nested + sizeof front - 1 + LEVELS, ']', LEVELS);
+    nested[sizeof front - 1 + 2 * LEVELS] = '}';
+    answer = fuota_run(words, 3, &log, 1, text, sizeof text, &ran);
+}
 static void decode(void) { answer = fuota_decode(up.port, true, up.payload, up.length, text, sizeof text, &decoded); }
 
 typedef struct call {
@@ -128,7 +142,7 @@ static call calls[] = {
     {server_status_all, "server_status_all", 0}, {server_ask, "server_ask", 0}, {server_uplink, "server_uplink", 0},
     {server_ledger, "server_ledger", 0}, {server_save, "server_save", 0}, {server_restore, "server_restore", 0},
     {server_frame, "server_frame", 0}, {server_last_status, "server_last_status", 0}, {library_version, "version", 0},
-    {library_pointer_bits, "pointer_bits", 0}, {decode, "decode", 0}};
+    {library_pointer_bits, "pointer_bits", 0}, {decode, "decode", 0}, {run, "run", 0}};
 
 enum { CALLS = sizeof calls / sizeof calls[0] };
 
@@ -174,6 +188,7 @@ static void radio(void) {
     }
     while (made(device_take_uplink), answer == FUOTA_DONE) {
         made(decode);
+        made(run);
         made(server_uplink);
     }
 }

@@ -4,11 +4,13 @@
 import { readFileSync, writeSync } from "node:fs";
 import { load } from "./fuota.mjs";
 
-const words = process.argv.slice(2);
+// (the bytes of the words, which node has as texts)
+const all = readFileSync("/proc/self/cmdline").toString("latin1").split("\0").slice(0, -1);
+const words = all.slice(all.length - process.argv.length + 2).map((word) => Buffer.from(word, "latin1"));
 const files = new Map();
 for (const word of words) {
   try {
-    files.set(word, new Uint8Array(readFileSync(word)));
+    files.set(word.toString(), new Uint8Array(readFileSync(word)));
   } catch {
     // (a word that names no file, or a folder)
   }
