@@ -31,9 +31,11 @@ pub record Facts : Type 0 where
   pub time : ℕ
   pub campaign : Option HeldCampaign
 
+-- of a campaign that is planned
 abbrev pub planned_facts : Planning → Facts
 planned_facts planning = record { count = length planning.devices.items; flash = planning.flash.items; time = 0; campaign = None }
 
+-- of a campaign that plays
 abbrev pub played_facts : HeldCampaign → Facts
 played_facts held = record { count = length held.devices; flash = held.flash; time = held.time; campaign = Some held }
 
@@ -42,26 +44,32 @@ abbrev pub sent_of : Option HeldCampaign → List SentPayload
 sent_of None = []
 sent_of (Some held) = held.sent
 
+-- what was made
 abbrev pub uplinks_of : Option HeldCampaign → List NumberedUplink
 uplinks_of None = []
 uplinks_of (Some held) = held.uplinks
 
+-- whether there is a fragment to send
 abbrev pub has_fragment : Option HeldCampaign → Bool
 has_fragment None = true
 has_fragment (Some held) = is_ok (next_fragment held.server)
 
+-- whether there is a status request to send to the group
 abbrev pub has_status : Option HeldCampaign → Bool
 has_status None = true
 has_status (Some held) = is_some (status_to_all held.server)
 
 -- ---- an event, and the end
 
+-- a time beyond the last one, or before now
 abbrev pub at_cause : (now time : ℕ) → Option LineWhy
 at_cause now time = unless (nat_le time max_time) why.Range (unless (nat_le now time) why.Time None)
 
+-- a device that is not there
 abbrev pub device_cause : (count device : ℕ) → Option LineWhy
 device_cause count device = unless (is_device count device) why.Device None
 
+-- a device that is not there, or has no flash
 abbrev pub power_cause : (count : ℕ) → (flash : List ℕ) → (device : ℕ) → Option LineWhy
 power_cause count flash device =
     unless (is_device count device && list_any (λ id. id == device) flash) why.Device None
@@ -70,23 +78,28 @@ power_cause count flash device =
 abbrev pub word_cause : (count device word : ℕ) → (rest : Option LineWhy) → Option LineWhy
 word_cause count device word rest = unless (is_u32 word) why.Range (unless (is_device count device) why.Device rest)
 
+-- a payload that was not sent, or to others
 abbrev pub down_cause : (count : ℕ) → List SentPayload → (number device word : ℕ) → Option LineWhy
 down_cause count sent number device word =
     word_cause count device word (unless (may_reach device (numbered sent number)) why.Unsent None)
 
+-- a payload that is none, or longer than a payload may be
 abbrev pub raw_cause : (count device port : ℕ) → (payload : List ℕ) → (word : ℕ) → Option LineWhy
 raw_cause count device port payload word =
     unless (nat_le port 255 && is_u32 word) why.Range
     (unless (is_device count device) why.Device
     (unless (nat_le (length payload) max_payload) why.Limit None))
 
+-- as `down`, and the payload goes out in no frame
 abbrev pub air_cause : (count : ℕ) → List SentPayload → (number device word : ℕ) → Option LineWhy
 air_cause count sent number device word =
     word_cause count device word (unless (may_reach device (numbered sent number) && goes_out (numbered sent number)) why.Unsent None)
 
+-- a word or a device that is not there
 abbrev pub raw_air_cause : (count device word : ℕ) → Option LineWhy
 raw_air_cause count device word = word_cause count device word None
 
+-- an uplink that was not made, or is not due yet
 abbrev pub up_cause : (now : ℕ) → List NumberedUplink → (number : ℕ) → Option LineWhy
 up_cause now uplinks number = unless (is_due_by now (numbered uplinks number)) why.Unsent None
 
@@ -115,6 +128,7 @@ plan_cause size facts form =
     unless (in_range form && fits_script size facts.count form) why.Range
     (unless (fits_flash (length facts.flash) form) why.Limit None)
 
+-- a line in its order that is an event, the end, or of the plan
 abbrev pub planned_cause : Section → (size : ℕ) → Facts → Form → Option LineWhy
 planned_cause section size facts form =
     unless (is_in_order section form) why.Order

@@ -40,10 +40,12 @@ use Rattle.campaign_world.specs.Said.{Said, Own, Elsewhere, Reached}
 abbrev pub with_plan : WorldState → Plan → Section → WorldState
 with_plan world plan next = record world { server = first_server world.server.image plan; section = next }
 
+-- the plan with its window
 abbrev pub with_window : Plan → Kind → (start timeout freq dr : ℕ) → Plan
 with_window plan kind start timeout freq dr =
     record plan { window = Some (record { kind = kind; start = start; timeout = timeout; freq = freq; dr = dr }) }
 
+-- the class of a device line
 abbrev pub class_of : Class → DeviceClass
 class_of class.A = device_class.A
 class_of class.C = device_class.C
@@ -62,6 +64,7 @@ root_of false = V10
 abbrev pub flash_span : ℕ
 flash_span = 631573
 
+-- the flash for a session, where sessions are held
 abbrev pub span_of : (held : Bool) → ℕ
 span_of held = if held then flash_span else 0
 
@@ -112,6 +115,7 @@ with_sent world receiver (Some down) =
 
 -- ---- what comes up
 
+-- an uplink of a device
 abbrev pub made_by : (device : ℕ) → Uplink → NumberedUplink
 made_by device uplink = record { device = device; uplink = uplink }
 
@@ -164,6 +168,7 @@ after_answer world n step = with_answer (record world { server = step.server }) 
     with_answer world (Ok down) = with_sent world (Some n) down
     with_answer world (Err refusal) = world
 
+-- the server and what it sends after an uplink came up
 abbrev pub after_up : WorldState → Option NumberedUplink → WorldState
 after_up world None = world
 after_up world (Some made) =

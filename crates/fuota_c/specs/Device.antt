@@ -8,6 +8,8 @@ use Rattle.frag_session.specs.Session.{view_of}
 use Rattle.session_store.specs.Size.{size_with}
 use Rattle.device_core.specs.Configuration.{Configuration, configured}
 use Rattle.device_core.specs.declared.config.DeviceConfig.{DeviceConfig}
+use Rattle.device_core.specs.declared.config.ReserveError.{ReserveError}
+use Rattle.device_core.specs.declared.config.ReserveError.TheVariants.{BadConfig}
 use Rattle.device_core.specs.declared.delivered.Delivered.{Delivered}
 use Rattle.device_core.specs.declared.delivered.Delivered.TheVariants as delivered
 use Rattle.device_core.specs.declared.delivered.Aired.{Aired}
@@ -61,6 +63,11 @@ OfSize parts Is = (size : PartSize) × (parts.size ≡ size_number size) × Is (
 abbrev pub IsNewDevice : Parts → Option (HeldDevice Cells) → (answer : ℕ) → Type 0
 IsNewDevice parts (Some x) answer = (answer ≡ done) × CanMake parts × OfSize parts (λ config. IsFirst config parts.bytes x)
 IsNewDevice parts None answer = ((answer ≡ range) × CanNotMake parts) ⊎ ((answer ≡ no_memory) × CanMake parts)
+
+-- the answer where no device is in memory of its own: none was made, or that memory was missing
+abbrev pub unmade_number : Result (HeldDevice Cells) ReserveError → ℕ
+unmade_number (Err BadConfig) = range
+unmade_number other = no_memory
 
 -- ---- what comes
 

@@ -1,11 +1,11 @@
 //! A device of all four packages.
 
-ghost use Rattle.std.specs.Prelude.{◌≡◌, ◌≤◌, Some, None, [], length, MatchResult};
+ghost use Rattle.std.specs.Prelude.{◌≡◌, ◌≤◌, Some, None, Ok, [], length, MatchResult};
 ghost use Rattle.wire_base.specs.Payload.{max_payload};
 ghost use Rattle.c_base.specs.Answer.{done, no_object};
 ghost use Rattle.c_base.specs.Calls.{Does, Tells};
 ghost use Rattle.fuota_c.specs.Config.{config_of};
-ghost use Rattle.fuota_c.specs.Device.{IsNewDevice, DeliversOrNot, WakesOrNot, TakesUplink, IsUplinkOut, IsSessionShown, IsSessionFile, downlink_of, delivered_number};
+ghost use Rattle.fuota_c.specs.Device.{IsNewDevice, DeliversOrNot, WakesOrNot, TakesUplink, IsUplinkOut, IsSessionShown, IsSessionFile, downlink_of, delivered_number, unmade_number};
 
 use crate::config::{ConfigFields, config_of, fits};
 use crate::device_handle::DeviceHandle;
@@ -89,7 +89,7 @@ pub fn put_new(
 }
 
 /// Makes a device over a flash of these bytes, or answers why there is none. It is never inlined, so that no caller has the
-/// devices on its stack that are moved here.
+/// device on its stack that is made here.
 #[inline(never)]
 pub fn made(
     alloc: Global,
@@ -112,14 +112,28 @@ pub fn made(
     let Ok(flash) = CellFlash::of_bytes(alloc, bytes) else {
         return Err(NO_MEMORY);
     };
-    let device = match Device::reserve_sized(alloc, config, sessions_of(size), flash) {
-        Ok(device) => device,
-        Err(ReserveError::BadConfig) => return Err(RANGE),
-        Err(ReserveError::Memory) => return Err(NO_MEMORY),
-    };
-    match Box::new(alloc, device) {
-        Ok(device) => Ok(device),
-        Err(_) => Err(NO_MEMORY),
+    boxed(
+        alloc,
+        Device::reserve_sized(alloc, config, sessions_of(size), flash),
+    )
+}
+
+/// Puts the device that was made into memory of its own, or answers why there is none. It is never inlined, so that while the
+/// device is made no room for one that moves is on the stack.
+#[inline(never)]
+pub fn boxed(
+    alloc: Global,
+    made: Result<Device<CellFlash>, ReserveError>,
+) -> Result<Box<Device<CellFlash>>, u8>
+    ensures { MatchResult result (λ x. made ≡ Ok x.value) (λ answer. answer ≡ unmade_number made) }
+{
+    match made {
+        Ok(device) => match Box::new(alloc, device) {
+            Ok(device) => Ok(device),
+            Err(_) => Err(NO_MEMORY),
+        },
+        Err(ReserveError::BadConfig) => Err(RANGE),
+        Err(ReserveError::Memory) => Err(NO_MEMORY),
     }
 }
 

@@ -71,9 +71,7 @@ macro_rules! opened {
 }
 
 impl IdleSessions {
-    /// Takes the memory of four sessions, each with a file area of so many bytes; `Memory` where there is too little. It is never
-    /// inlined, as `MemorySessions::reserve`.
-    #[inline(never)]
+    /// Takes the memory of four sessions, each with a file area of so many bytes; `Memory` where there is too little.
     pub fn reserve(alloc: Global, size: SessionSize, area: u32) -> Result<Self, Memory>
         ensures size { IfOk result (λ idles. idle_size idles ≡ size_with size) }
         ensures idle { IfOk result (IdleFor area) }

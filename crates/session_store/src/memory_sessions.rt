@@ -42,9 +42,7 @@ macro_rules! hand_on {
 }
 
 impl MemorySessions {
-    /// Takes the memory of slots without sessions, each with a file area of so many bytes; `Memory` where there is too little. It
-    /// is never inlined, so that no caller has the room of its sizes on its stack beside that of `IdleSessions::reserve`.
-    #[inline(never)]
+    /// Takes the memory of slots without sessions, each with a file area of so many bytes; `Memory` where there is too little.
     pub fn reserve(alloc: Global, size: SessionSize, area: u32) -> Result<Self, Memory>
         ensures stands { IfOk result (λ s. SessionsStand (slots_in s) no_sessions) }
         ensures room { IfOk result (λ s. (slots_in s).room ≡ memory_of size area) }

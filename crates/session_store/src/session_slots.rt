@@ -117,8 +117,7 @@ fn slot<const W: usize, const B: usize>(
     Ok(Slot::new(idle(alloc, area, pieces)?))
 }
 
-/// The memory of a session. It is never inlined, so that no caller has the room of four and of each size on its stack.
-#[inline(never)]
+/// The memory of a session.
 pub fn idle<const W: usize, const B: usize>(
     alloc: Global,
     area: u32,
