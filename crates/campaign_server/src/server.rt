@@ -2,7 +2,6 @@
 
 ghost use Rattle.std.specs.Prelude.{◌≡◌, ◌⊎◌, ◌↔◌, ◌^◌, ◌<◌, ◌≤◌, Ok, Err, IfOk, is_ok, is_some, None, Some, length, replicate, true, false};
 ghost use Rattle.image_slots.specs.Image.{is_image};
-ghost use Rattle.frag_encoder.specs.Encoding.{nb_frag_of, padding_of};
 ghost use Rattle.campaign_server.specs.declared.plan.Field.{Field};
 ghost use Rattle.campaign_server.specs.declared.stage.Stage.TheVariants.{At};
 ghost use Rattle.campaign_server.specs.declared.stage.Request.TheVariants.{Version};
@@ -11,13 +10,15 @@ ghost use Rattle.campaign_server.specs.Server.{ServerState, first_server, first_
 ghost use Rattle.wire_base.specs.Numbered.{numbered};
 ghost use Rattle.wire_base.specs.Numbers.{number_at};
 ghost use Rattle.campaign_server.specs.Asking.{request_of};
-ghost use Rattle.campaign_server.specs.Fragments.{last_fragment, next_fragment, after_fragment, status_to_all, after_status_to_all};
+ghost use Rattle.campaign_server.specs.Fragments.{next_fragment, after_fragment, status_to_all, after_status_to_all};
 ghost use Rattle.campaign_server.specs.Uplinks.{uplink_step};
 ghost use Rattle.campaign_server.specs.ServerInside.{IsPlan};
 ghost use Rattle.campaign_server.specs.Sent.{down_of, result_of, answer_of};
 ghost use Rattle.campaign_server.specs.Framing.{has_frame, frame_for};
 ghost use Rattle.campaign_server.specs.Saving.{IsOver, saved_of};
 ghost use Rattle.campaign_server.specs.SavingInside.{fits, told_of};
+
+mod told;
 
 use crate::answers::after_all;
 use crate::asking::request;
@@ -336,48 +337,6 @@ impl Server {
         ensures { Some result ≡ last_status self.now dev }
     {
         numbered(&self.statuses, dev)
-    }
-
-    /// Returns its plan.
-    pub fn plan(&self) -> &Plan
-        ensures { result.now ≡ self.now.plan }
-    {
-        &self.plan
-    }
-
-    /// Returns the image that is sent.
-    pub fn image(&self) -> &[u8]
-        ensures { result.now ≡ self.now.image }
-    {
-        self.encoder.file()
-    }
-
-    /// Returns the bytes of a fragment.
-    pub fn frag_size(&self) -> u8
-        ensures { result ≡ self.now.plan.frag_size }
-    {
-        self.plan.frag_size
-    }
-
-    /// Returns the number of uncoded fragments, 1 to 4,096.
-    pub fn nb_frag(&self) -> u16
-        ensures { result ≡ nb_frag_of (length self.now.image) self.now.plan.frag_size }
-    {
-        self.encoder.nb_frag()
-    }
-
-    /// Returns the number of zero bytes that fill the last uncoded fragment up.
-    pub fn padding(&self) -> u8
-        ensures { result ≡ padding_of (length self.now.image) self.now.plan.frag_size }
-    {
-        self.encoder.padding()
-    }
-
-    /// Returns the number of coded fragments that follow the uncoded ones, 0 to 512.
-    pub fn parity(&self) -> u16
-        ensures { result ≡ self.now.plan.parity }
-    {
-        self.plan.parity
     }
 }
 
