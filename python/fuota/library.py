@@ -65,6 +65,8 @@ uint8_t fuota_server_ask(fuota_server *, uint8_t, fuota_down *);
 uint8_t fuota_server_uplink(fuota_server *, uint8_t, uint8_t, const uint8_t *, fuota_length, uint64_t, fuota_down *);
 uint8_t fuota_server_ledger(fuota_server *, uint8_t, fuota_stage *);
 uint8_t fuota_server_last_status(fuota_server *, uint8_t, fuota_status *);
+uint8_t fuota_server_fragment_number(fuota_server *, uint16_t *);
+uint8_t fuota_server_frame_count(fuota_server *, uint32_t *);
 fuota_length fuota_server_save(fuota_server *, uint8_t *, fuota_length);
 uint8_t fuota_server_restore(fuota_server *, const fuota_plan *, const fuota_plan_device *, fuota_length, const uint8_t *, fuota_length, const uint8_t *, fuota_length, uint8_t *);
 uint8_t fuota_decode(uint8_t, bool, const uint8_t *, fuota_length, uint8_t *, fuota_length, fuota_decoded *);
@@ -654,6 +656,18 @@ class Server(Object):
     def last_status(self, dev: int) -> Status | None:
         """What a device told last of the campaign's session; None where it told nothing."""
         return self.told("last_status", Status(), dev)
+
+    def fragment_number(self) -> int:
+        """The number of the fragment that is sent next, from 1; where all were sent, one more than that of the last."""
+        number = U16()
+        self.done("fragment_number", ctypes.byref(number))
+        return number.value
+
+    def frame_count(self) -> int:
+        """The group's next frame count, from its `min` to its `max`, where none is left; 0 without a group."""
+        count = U32()
+        self.done("frame_count", ctypes.byref(count))
+        return count.value
 
     def ledger(self, dev: int) -> Stage:
         """Where a device stands."""
