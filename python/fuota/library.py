@@ -106,6 +106,11 @@ class Request(enum.IntEnum):
     (REQUEST_VERSION, REQUEST_GROUP, REQUEST_FRAGMENTS, REQUEST_WINDOW, REQUEST_STATUS, REQUEST_IMAGE, REQUEST_REBOOT,
      REQUEST_CHECK) = range(1, 9)
 
+    @property
+    def word(self) -> str:
+        """Its name as a word, as `version`."""
+        return self.name.removeprefix("REQUEST_").lower()
+
 
 class Why(enum.IntEnum):
     """Why a payload has no text."""
@@ -356,6 +361,17 @@ class Stage(Struct):
     """Where a device stands: a `StageKind`, the `Request`, and the bits of a refusal."""
 
     _fields_ = [("stage", U8), ("request", U8), ("bits", U8)]
+
+    @property
+    def word(self) -> str:
+        """Its name as a word, one of `STAGES`."""
+        if self.stage == StageKind.AT:
+            return Request(self.request).word
+        return "updated" if self.stage == StageKind.UPDATED else "refused"
+
+
+# The words of all stages, in their order.
+STAGES = (*(request.word for request in Request), "updated", "refused")
 
 
 class Decoded(Struct):
