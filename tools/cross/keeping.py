@@ -148,7 +148,7 @@ def built(name: str, target: str = HERE, is_after_ci: bool = False) -> pathlib.P
 def words_of(name: str, target: str) -> list[str]:
     """The words by which rattle proves and builds a static library over the libraries below it."""
     real, names = kit(), listed()
-    words = [str(real / "bin" / "rattle"), "build", "src/lib.rt", "--crate-name", name, "--crate-type", "staticlib"]
+    words = [str(real / "bin" / "rattle"), "build", "src/lib.rt", "--crate-name", name, "--crate-type", "staticlib", "--backend", "llvm"]
     for it in ("std", *names[name]):
         words += ["--extern", f"{it}={library(it) if it in names else real / 'rlibs' / f'{it}.rlib'}"]
     for folder in (real / "rlibs", *(library(it).parent for it in below(name))):
