@@ -28,7 +28,8 @@ static int without_objects(void) {
     fuota_stage stage = {.bits = 9};
     fuota_counts counts = {.deaf = 9};
     fuota_next next = {.version = 9};
-    uint32_t version = 9;
+    uint32_t version = 9, count = 9;
+    uint16_t number = 9;
     uint8_t bytes[8] = {0xEE};
     SO(fuota_version() == FUOTA_VERSION_MAJOR * 65536 + FUOTA_VERSION_MINOR * 256 + FUOTA_VERSION_PATCH);
     SO(fuota_pointer_bits() == 8 * sizeof(void *));
@@ -53,6 +54,8 @@ static int without_objects(void) {
     SO(fuota_server_ask(&server, 1, &down) == FUOTA_NO_OBJECT);
     SO(fuota_server_uplink(&server, 1, 201, zeros, 1, 0, &down) == FUOTA_NO_OBJECT && down.addr == 9);
     SO(fuota_server_ledger(&server, 1, &stage) == FUOTA_NO_OBJECT && stage.bits == 9);
+    SO(fuota_server_fragment_number(&server, &number) == FUOTA_NO_OBJECT && number == 9);
+    SO(fuota_server_frame_count(&server, &count) == FUOTA_NO_OBJECT && count == 9);
     fuota_receiver_free(&receiver);
     fuota_device_free(&device);
     fuota_server_free(&server);
@@ -320,6 +323,8 @@ static int server_answers(const uint8_t *image, size_t length) {
     fuota_plan plan = {.frag_size = 13, .parity = 1};
     fuota_down down = {.addr = 9};
     fuota_stage stage = {0};
+    uint32_t count = 9;
+    uint16_t number = 9;
     uint8_t field = 7, frame[FUOTA_MAX_FRAME];
     int i;
     SO(fuota_server_new(&server, &plan, devices, 2, image, length - 1, &field) == FUOTA_REFUSED && field == 7);
@@ -356,6 +361,8 @@ static int server_answers(const uint8_t *image, size_t length) {
     SO(stage.request == FUOTA_REQUEST_VERSION && stage.bits == 0);
     SO(fuota_server_ledger(&server, 3, &stage) == FUOTA_RANGE);
     for (i = 0; i < 2; i++) {
+        SO(fuota_server_fragment_number(&server, &number) == FUOTA_DONE && number == i + 1);
+        SO(fuota_server_frame_count(&server, &count) == FUOTA_DONE && (int)count == i);
         SO(fuota_server_next_fragment(&server, &down) == FUOTA_DONE);
         SO(down.is_group && down.addr == 0 && (int)down.count == i && down.port == 201 && down.length == 16);
         SO(down.payload[0] == 0x08 && down.payload[1] == i + 1 && !memcmp(down.payload + 3, image + 13 * i, 13));
@@ -374,11 +381,15 @@ static int server_answers(const uint8_t *image, size_t length) {
     SO(fuota_server_status_all(&server, &down) == FUOTA_DONE && down.count == 2 && down.length == 2);
     SO(fuota_server_status_all(&server, &down) == FUOTA_SPENT);
     SO(fuota_server_next_fragment(&server, &down) == FUOTA_SPENT);
+    SO(fuota_server_fragment_number(&server, &number) == FUOTA_DONE && number == 3);
+    SO(fuota_server_frame_count(&server, &count) == FUOTA_DONE && count == plan.max);
     plan.has_group = plan.has_window = false;
     SO(fuota_server_new(&server, &plan, devices, 1, image, length, &field) == FUOTA_DONE); /* frees the first */
     for (i = 0; fuota_server_next_fragment(&server, &down) == FUOTA_DONE; i++)
         SO(!down.is_group && fuota_server_frame(&server, &down, frame, sizeof frame) == 0);
     SO(i == 5 && fuota_server_next_fragment(&server, &down) == FUOTA_NOTHING);
+    SO(fuota_server_fragment_number(&server, &number) == FUOTA_DONE && number == 6);
+    SO(fuota_server_frame_count(&server, &count) == FUOTA_DONE && count == 0);
     fuota_server_free(&server);
     SO(server.at == 0);
     return 0;

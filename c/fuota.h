@@ -453,6 +453,14 @@ typedef struct fuota_status {
 /* FUOTA_DONE; FUOTA_NOTHING where it told nothing; FUOTA_RANGE where the plan has no such device; FUOTA_NO_OBJECT. */
 fuota_result fuota_server_last_status(fuota_server *handle, uint8_t dev, fuota_status *out);
 
+/* The number of the fragment that fuota_server_next_fragment sends next, from 1; where all were sent, one more than that
+ * of the last: FUOTA_DONE; FUOTA_NO_OBJECT. */
+fuota_result fuota_server_fragment_number(fuota_server *handle, uint16_t *number);
+
+/* The group's next frame count, from its `min` to its `max`, where none is left; 0 without a group: FUOTA_DONE;
+ * FUOTA_NO_OBJECT. */
+fuota_result fuota_server_frame_count(fuota_server *handle, uint32_t *count);
+
 /* The most bytes that a server saves: 44, and six for each of 64 devices. */
 #define FUOTA_SAVED_SERVER 428
 

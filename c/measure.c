@@ -36,7 +36,8 @@ static fuota_stage stage;
 static fuota_view view;
 static fuota_decoded decoded;
 static uint8_t text[1000], saved[FUOTA_SAVED_SERVER], kept[FUOTA_SAVED_DEVICE], answer, field;
-static uint32_t version;
+static uint32_t version, count;
+static uint16_t number;
 static uint8_t frame[FUOTA_MAX_FRAME];
 static size_t frame_length;
 static fuota_counts counts;
@@ -98,6 +99,8 @@ static void server_uplink(void) {
 }
 static void server_ledger(void) { answer = fuota_server_ledger(&server, 1, &stage); }
 static void server_last_status(void) { answer = fuota_server_last_status(&server, 1, &status); }
+static void server_fragment_number(void) { answer = fuota_server_fragment_number(&server, &number); }
+static void server_frame_count(void) { answer = fuota_server_frame_count(&server, &count); }
 static void server_save(void) { saved_length = fuota_server_save(&server, saved, sizeof saved); }
 static void server_restore(void) {
     answer = fuota_server_restore(&server, &plan, devices, 1, image, image_length, saved, saved_length, &field);
@@ -141,7 +144,9 @@ static call calls[] = {
     {server_new, "server_new", 0}, {server_free, "server_free", 0}, {server_next_fragment, "server_next_fragment", 0},
     {server_status_all, "server_status_all", 0}, {server_ask, "server_ask", 0}, {server_uplink, "server_uplink", 0},
     {server_ledger, "server_ledger", 0}, {server_save, "server_save", 0}, {server_restore, "server_restore", 0},
-    {server_frame, "server_frame", 0}, {server_last_status, "server_last_status", 0}, {library_version, "version", 0},
+    {server_frame, "server_frame", 0}, {server_last_status, "server_last_status", 0},
+    {server_fragment_number, "server_fragment_number", 0}, {server_frame_count, "server_frame_count", 0},
+    {library_version, "version", 0},
     {library_pointer_bits, "pointer_bits", 0}, {decode, "decode", 0}, {run, "run", 0}};
 
 enum { CALLS = sizeof calls / sizeof calls[0] };
@@ -219,6 +224,8 @@ static void play(int campaign) {
         made(server_status_all);
         radio();
         made(server_last_status);
+        made(server_fragment_number);
+        made(server_frame_count);
         made(server_save);
         made(server_restore);
     }

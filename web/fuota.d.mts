@@ -585,6 +585,12 @@ export class Server {
   /** What a device told last of the campaign's session; null where it told nothing. */
   lastStatus(dev: number): Status | null;
 
+  /** The number of the fragment that is sent next, from 1; where all were sent, one more than that of the last. */
+  fragmentNumber(): number;
+
+  /** The group's next frame count, from its `min` to its `max`, where none is left; 0 without a group. */
+  frameCount(): number;
+
   /** Where a device stands. */
   ledger(dev: number): Stage;
 

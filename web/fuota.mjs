@@ -263,6 +263,8 @@ const FILE = new Struct("file", { name: U64, nameLength: LENGTH, bytes: U64, byt
 const RAN = new Struct("ran", { length: LENGTH, status: U8 });
 // (places that a call writes a number to)
 const VERSION = new Struct("version", { version: U32 });
+const NUMBER = new Struct("number", { number: U16 });
+const COUNT = new Struct("count", { count: U32 });
 const WRONG = new Struct("field", { field: U8 });
 
 const placesOf = ({ size, fields }) => ({
@@ -699,6 +701,14 @@ export class Server extends Held {
 
   lastStatus(dev) {
     return handleOf(this).told("last_status", STATUS, U8.of("dev", dev));
+  }
+
+  fragmentNumber() {
+    return handleOf(this).told("fragment_number", NUMBER).number;
+  }
+
+  frameCount() {
+    return handleOf(this).told("frame_count", COUNT).count;
   }
 
   ledger(dev) {

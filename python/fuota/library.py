@@ -65,6 +65,8 @@ uint8_t fuota_server_ask(fuota_server *, uint8_t, fuota_down *);
 uint8_t fuota_server_uplink(fuota_server *, uint8_t, uint8_t, const uint8_t *, fuota_length, uint64_t, fuota_down *);
 uint8_t fuota_server_ledger(fuota_server *, uint8_t, fuota_stage *);
 uint8_t fuota_server_last_status(fuota_server *, uint8_t, fuota_status *);
+uint8_t fuota_server_fragment_number(fuota_server *, uint16_t *);
+uint8_t fuota_server_frame_count(fuota_server *, uint32_t *);
 fuota_length fuota_server_save(fuota_server *, uint8_t *, fuota_length);
 uint8_t fuota_server_restore(fuota_server *, const fuota_plan *, const fuota_plan_device *, fuota_length, const uint8_t *, fuota_length, const uint8_t *, fuota_length, uint8_t *);
 uint8_t fuota_decode(uint8_t, bool, const uint8_t *, fuota_length, uint8_t *, fuota_length, fuota_decoded *);
@@ -103,6 +105,11 @@ class Request(enum.IntEnum):
 
     (REQUEST_VERSION, REQUEST_GROUP, REQUEST_FRAGMENTS, REQUEST_WINDOW, REQUEST_STATUS, REQUEST_IMAGE, REQUEST_REBOOT,
      REQUEST_CHECK) = range(1, 9)
+
+    @property
+    def word(self) -> str:
+        """Its name as a word, as `version`."""
+        return self.name.removeprefix("REQUEST_").lower()
 
 
 class Why(enum.IntEnum):
@@ -354,6 +361,17 @@ class Stage(Struct):
     """Where a device stands: a `StageKind`, the `Request`, and the bits of a refusal."""
 
     _fields_ = [("stage", U8), ("request", U8), ("bits", U8)]
+
+    @property
+    def word(self) -> str:
+        """Its name as a word, one of `STAGES`."""
+        if self.stage == StageKind.AT:
+            return Request(self.request).word
+        return "updated" if self.stage == StageKind.UPDATED else "refused"
+
+
+# The words of all stages, in their order.
+STAGES = (*(request.word for request in Request), "updated", "refused")
 
 
 class Decoded(Struct):
@@ -654,6 +672,18 @@ class Server(Object):
     def last_status(self, dev: int) -> Status | None:
         """What a device told last of the campaign's session; None where it told nothing."""
         return self.told("last_status", Status(), dev)
+
+    def fragment_number(self) -> int:
+        """The number of the fragment that is sent next, from 1; where all were sent, one more than that of the last."""
+        number = U16()
+        self.done("fragment_number", ctypes.byref(number))
+        return number.value
+
+    def frame_count(self) -> int:
+        """The group's next frame count, from its `min` to its `max`, where none is left; 0 without a group."""
+        count = U32()
+        self.done("frame_count", ctypes.byref(count))
+        return count.value
 
     def ledger(self, dev: int) -> Stage:
         """Where a device stands."""

@@ -183,6 +183,8 @@ static void server(void) {
         fuota_down down = {0};
         fuota_stage stage;
         fuota_status status;
+        uint16_t next;
+        uint32_t count;
         bytes data = some(), frame = room(FUOTA_MAX_FRAME);
         uint8_t dev = (uint8_t)(number(1) % 4);
         switch (number(1) % 6) {
@@ -207,6 +209,8 @@ static void server(void) {
         fuota_server_frame(&it, &down, frame.at, frame.length);
         fuota_server_ledger(&it, dev, &stage);
         fuota_server_last_status(&it, dev, &status);
+        hold(fuota_server_fragment_number(&it, &next) == FUOTA_DONE && next >= 1);
+        hold(fuota_server_frame_count(&it, &count) == FUOTA_DONE && count <= plan.max);
         free(data.at), free(frame.at);
     }
     fuota_server_free(&it);

@@ -144,13 +144,17 @@ class Tried:
             dev = self.device()
             self.call("ledger", dev)
             self.call("last_status", dev)
+            self.call("fragment_number")
+            self.call("frame_count")
 
     def saved(self) -> bytes:
         """What it saves; the digest is the formats'."""
         assert self.twins
-        saved = bytes(self.twins.objects[0].save())
+        server = self.twins.objects[0]
+        saved = bytes(server.save())
         agree("bytes of a saved server", 44 + 6 * len(self.devices), len(saved))
         agree("a saved server", server_sealed(saved[:-DIGEST], self.plan, self.devices, self.image), saved)
+        agree("the numbers of a saved server", number(server.fragment_number(), 2) + number(server.frame_count(), 4), saved[5:HEAD - 1])
         return saved
 
     def restored(self, saved: bytes) -> Any:

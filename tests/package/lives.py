@@ -9,10 +9,12 @@ import signal
 import subprocess
 import sys
 
+import fuota
 from fuota import image
-from fuota.campaign import _saved, command, journal, pipe
+from fuota.campaign import command, journal, pipe, progress
 from fuota.campaign.plan import read_plan
 from fuota.campaign.rehearsal import Fleet
+from fuota.errors import Wrong
 
 TOOL = [sys.executable, "-m", "fuota.campaign"]
 EUIS = [f"010203040506070{last}" for last in (8, 9, "a")]
@@ -86,15 +88,14 @@ class Played:
     """A campaign in simulated time: devices, and what the tool sent them over all its lives."""
 
     def __init__(self, folder, library, seed, loss=0.1):
-        self.folder, self.t, self.pending = folder, BEGIN, []
+        self.folder, self.t, self.pending, self.library = folder, BEGIN, [], library
         self.fleet = Fleet(read_plan(folder / "plan.toml"), library, BEGIN, 60_000, loss, seed)
         self.counts, self.numbers, self.faults, self.sent, self.updated = [], [], [], 0, set()
 
     def life(self, process):
         """Plays with a process until it ends."""
-        with contextlib.suppress(FileNotFoundError):
-            stages = _saved.stages_of((self.folder / "state" / "state").read_bytes())
-            self.updated = {eui for eui, stage in zip(EUIS, stages) if stage == "updated"}
+        with contextlib.suppress(FileNotFoundError, fuota.Error, Wrong):
+            self.updated = {eui for eui, stage in zip(EUIS, self.kept()[1]) if stage == "updated"}
         try:
             for line in process.output:
                 self.take(json.loads(line), process)
@@ -102,6 +103,13 @@ class Played:
             pass
         self.pending = []
         return process.end()
+
+    def kept(self):
+        """How many fragments were taken from the server that is kept, and the stage of each device."""
+        plan, saved = read_plan(self.folder / "plan.toml"), (self.folder / "state" / "state").read_bytes()
+        words = plan.for_library(), plan.devices_for_library, plan.image.data, saved, self.library
+        with fuota.Server.restore(*words) as server:
+            return server.fragment_number() - 1, [server.ledger(dev).word for dev in range(1, len(plan.devices) + 1)]
 
     def take(self, told, process):
         if "wait" in told:
@@ -158,6 +166,10 @@ class Played:
                 if line["t"] < asked.get(request, 0) + 60_000:
                     self.faults.append(f"{request} is asked too early")
                 asked[request] = line["t"]
+        history = progress.Kept(self.folder / "state").history
+        told = history.number, [contact.stage for contact in history.contacts.values()]
+        if told != self.kept():
+            self.faults.append(f"the journal tells {told} in place of {self.kept()}")
         if status != 0:
             self.faults.append(f"status {status}")
         if set(self.fleet.running()) != {VERSION}:

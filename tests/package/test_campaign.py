@@ -25,7 +25,7 @@ from xml.etree import ElementTree
 import pytest
 
 import fuota
-from fuota.campaign import _saved, carrier, play, progress
+from fuota.campaign import carrier, play, progress
 from fuota.campaign.folder import Folder
 from fuota.campaign.plan import read_plan
 from lives import (BEGIN, BY_UNICAST, EUIS, IMAGE, PLAN, TOOL, Played, Process, child_life, devices_of, image_file, laid_out,
@@ -236,7 +236,7 @@ def test_strange_uplinks(begun, library):
         process.write(line)
     while "wait" not in json.loads(process.output.readline()):
         pass
-    stages = _saved.stages_of((played.folder / "state" / "state").read_bytes())
+    _, stages = played.kept()
     process.write({"time": BEGIN})
     status = played.life(process)
     assert stages == ["version"] * 3

@@ -52,8 +52,9 @@ class Server(world.Server):
         self.again()
 
     def again(self):
-        """Ends the server, restores it, and holds its stages against the model's."""
+        """Ends the server, restores it, and holds its stages, and what it sends next, against the model's."""
         self.other.made("restore", *self.told, *held(self.other.save()))
+        agree("what is sent next", (self.next, self.count), (self.other.fragment_number(), self.other.frame_count()))
         for number, stage in enumerate(self.stages, 1):
             told = self.other.ledger(number)
             agree(f"stage of device {number}", numbers_of(stage), (told.stage, told.request, told.bits))

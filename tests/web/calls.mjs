@@ -143,8 +143,10 @@ await tried("a server", () => using(new Server(library, { ...PLAN, ...GROUP }, K
   assert.deepEqual(server.ask(2), { port: 203, payload: Uint8Array.of(1), isGroup: false, addr: 0, count: 0 });
   assert.deepEqual(server.ledger(2), { stage: StageKind.AT, request: RequestKind.VERSION, bits: 0 });
   assert.equal(server.lastStatus(1), null);
+  assert.deepEqual([server.fragmentNumber(), server.frameCount()], [1, 0]);
   const down = server.nextFragment();
   assert.deepEqual([down.port, down.isGroup, down.addr, down.count], [201, true, 5, 0]);
+  assert.deepEqual([server.fragmentNumber(), server.frameCount()], [2, 1]);
   assert.deepEqual([...down.payload.subarray(3)], [...image.subarray(0, 13)]);
   const frame = server.frame(down);
   assert.deepEqual([frame.length, frame[0], frame[8]], [29, 0x60, 201]);
@@ -166,6 +168,7 @@ await tried("a server without a group", () => using(new Server(library, PLAN, KE
   let sent = 0;
   for (let down = server.nextFragment(); down !== null; down = server.nextFragment(), sent++) assert(!down.isGroup);
   assert.equal(sent, 5);
+  assert.deepEqual([server.fragmentNumber(), server.frameCount()], [6, 0]);
 }));
 
 await tried("texts", () => {

@@ -93,6 +93,8 @@ tried("frame", () => server.frame(down));
 tried("status of all", () => server.statusAll());
 tried("uplink at a server", () => server.uplink(1, 201, Uint8Array.of(0x01, 1, 0, 1, 0), 0));
 tried("last status", () => server.lastStatus(1));
+tried("number of the next fragment", () => server.fragmentNumber());
+tried("next frame count", () => server.frameCount());
 tried("ledger", () => server.ledger(1));
 tried("server's save", () => server.save());
 for (const object of [device, server, receiver]) object.free();

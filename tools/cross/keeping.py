@@ -1,33 +1,42 @@
-"""`rt lib` for a static library, which also keeps the LLVM module that was proved and compiled.
+"""The static libraries for C, proved and built, and the LLVM module of each, which is kept.
 
-rattle lowers a static library to one module, module.bc, and has bin/clang of its toolchain folder compile that. rt
-takes both from the folder in which it stands itself. So a shadow of this folder is made: links to all that is there,
-but copies of rt's two files, and in the place of clang a script that copies the module and then calls the real one.
-`rt lib` out of the shadow proves and builds as ever, and what it proved before, here or in another checkout, is found
-beside the shadow as beside the kit.
+`rt lib` proves the libraries that they stand on; or `rt ci` did just before, and left them in crates/NAME/out. Over these
+`rattle build`, as `rt lib` calls it too, proves a static library, lowers it to one module, module.bc, and has bin/clang of a
+toolchain folder compile that. The folder is made here: links to all that is in the kit's, but in the place of clang a script
+that copies the module and then calls the real one.
 """
+import contextlib
+import fcntl
 import hashlib
-import importlib.machinery
-import importlib.util
 import os
 import pathlib
-import shutil
 import subprocess
 import sys
 import tempfile
+from collections.abc import Iterator
+
+from .targets import TARGETS
 
 CRATES = pathlib.Path(__file__).resolve().parent.parent.parent / "crates"
 # The crates of the library for C, and with the program as a call, which the libraries for microcontrollers leave out.
 NAMES = ("fuota_c", "fuota_server_c")
 ALL = (*NAMES, "fuota_run_c")
-# What decides where rt takes the kit to be, so no links.
-COPIED = ("rt", "rtlib.py")
-KEPT = "rattle-kept"
+# The processor whose modules are kept.
+HERE = "x86_64"
+# Where rt leaves a library, the file that a whole one has, and what says that another command than `rt ci` built it.
+LEFT, WHOLE, STAMP = "out/rlib/{name}.rlib", "format", "out/rlib/stamp"
 MODULE = "module.bc"
 CLANG = """#!/bin/sh
 if [ -f {module} ]; then cp -f {module} '{kept}' || exit 1; fi
 exec '{clang}' "$@"
 """
+
+
+def run(*words: str, cwd: pathlib.Path) -> str:
+    done = subprocess.run(words, cwd=cwd, stdout=subprocess.PIPE, stderr=subprocess.STDOUT, text=True)
+    if done.returncode:
+        sys.exit(f"{words[0]} {words[1]} in {cwd}: status {done.returncode}\n{done.stdout[-2000:]}")
+    return done.stdout
 
 
 def kit() -> pathlib.Path:
@@ -36,30 +45,118 @@ def kit() -> pathlib.Path:
     return pathlib.Path(done.stdout.strip()).parent
 
 
-def link_all(source: pathlib.Path, to: pathlib.Path, but: tuple[str, ...] = ()) -> None:
-    """Makes a folder of links to what is in another one, but for some names."""
-    to.mkdir(parents=True)
+def link_all(source: pathlib.Path, to: pathlib.Path, but: str) -> None:
+    """Makes a folder of links to what is in another one, but for a name."""
+    to.mkdir()
     for path in source.iterdir():
-        if path.name not in but:
+        if path.name != but:
             (to / path.name).symlink_to(path)
 
 
-def shadow(place: pathlib.Path, module: pathlib.Path) -> pathlib.Path:
-    """Makes a shadow of the kit in an empty folder, and gives its rt, which leaves the module that it compiles at a
-    place."""
-    real, ours = kit(), place / "kit"
-    link_all(real, ours, but=("bin", "toolchain"))
-    link_all(real / "bin", ours / "bin", but=COPIED)
-    for name in COPIED:
-        shutil.copy2(real / "bin" / name, ours / "bin" / name)
-    link_all(real / "toolchain", ours / "toolchain", but=("bin",))
-    link_all(real / "toolchain" / "bin", ours / "toolchain" / "bin", but=("clang",))
-    clang = ours / "toolchain" / "bin" / "clang"
-    clang.write_text(CLANG.format(module=MODULE, kept=module, clang=real / "toolchain" / "bin" / "clang"))
+def toolchain(place: pathlib.Path, module: pathlib.Path) -> pathlib.Path:
+    """Makes a folder as the kit's toolchain, which leaves the module that it compiles at a place."""
+    real, ours = kit() / "toolchain", place / "toolchain"
+    link_all(real, ours, but="bin")
+    link_all(real / "bin", ours / "bin", but="clang")
+    clang = ours / "bin" / "clang"
+    clang.write_text(CLANG.format(module=MODULE, kept=module, clang=real / "bin" / "clang"))
     clang.chmod(0o755)
-    if (real.parent / KEPT).is_dir():
-        (place / KEPT).symlink_to(real.parent / KEPT)
-    return ours / "bin" / "rt"
+    return ours
+
+
+# ---- The libraries below
+
+
+def listed() -> dict[str, list[str]]:
+    """The crates of crates.txt, and the libraries that each names, the kit's too."""
+    lines = [line.partition("#")[0].partition(":") for line in (CRATES.parent / "crates.txt").read_text().splitlines()]
+    return {head.split()[0]: names.split() for head, _, names in lines if head.strip()}
+
+
+def below(name: str) -> list[str]:
+    """The repository's libraries below a crate."""
+    names, found, left = listed(), [], [name]
+    while left:
+        new = [it for it in names[left.pop()] if it in names and it not in found]
+        found += new
+        left += new
+    return found
+
+
+def library(name: str) -> pathlib.Path:
+    return CRATES / name / LEFT.format(name=name)
+
+
+def is_left(name: str) -> bool:
+    """Whether a whole `rt ci` left the library of a crate, and none of its files was touched since."""
+    crate, made = CRATES / name, library(name)
+    if not (made / WHOLE).is_file() or (crate / STAMP).exists():
+        return False
+    files = [path for part in ("src", "specs", "proofs") for path in [crate / part, *(crate / part).rglob("*")] if path.exists()]
+    files += [CRATES.parent / "crates.txt", CRATES.parent / "HANDLES"]
+    return max(path.stat().st_ctime for path in files) < made.stat().st_mtime
+
+
+def prove_below(name: str, is_after_ci: bool) -> None:
+    """Proves and builds the libraries below a crate where none is built of what they are now; after `rt ci` they are there."""
+    if is_after_ci:
+        lacking = [it for it in below(name) if not is_left(it)]
+        if not lacking:
+            return
+        print(f"rt ci left no library of {lacking[0]} as it is now, so rt lib proves what {name} stands on", file=sys.stderr)
+    direct = [it for it in listed()[name] if it in listed()]
+    for it in direct:
+        if not any(it in below(other) for other in direct):
+            run("rt", "lib", cwd=CRATES / it)
+
+
+# ---- The static libraries
+
+
+@contextlib.contextmanager
+def alone_in(names: list[str]) -> Iterator[None]:
+    """Waits until no rt works in the folders of these crates, and keeps others out."""
+    with contextlib.ExitStack() as held:
+        for name in sorted(names):
+            folder = os.open(CRATES / name, os.O_RDONLY)
+            held.callback(os.close, folder)
+            fcntl.flock(folder, fcntl.LOCK_EX)
+        yield
+
+
+def built(name: str, target: str = HERE, is_after_ci: bool = False) -> pathlib.Path:
+    """Proves a static library and builds it for a target of the toolchain's: gives its archive. Of that for x86-64 the module is
+    kept."""
+    crate, made = CRATES / name, CRATES / name / "out" / f"lib{name}.a"
+    module, said = kept(name)
+    sum_before = sum_of(CRATES)
+    prove_below(name, is_after_ci)
+    with tempfile.TemporaryDirectory() as place, alone_in([name, *below(name)]):
+        made.parent.mkdir(exist_ok=True)
+        if target == HERE:
+            said.unlink(missing_ok=True)
+            module.unlink(missing_ok=True)
+        by = toolchain(pathlib.Path(place), module) if target == HERE else kit() / "toolchain"
+        run(*words_of(name, target), "--toolchain", str(by), "-o", str(made), cwd=crate)
+    if target == HERE:
+        if not module.is_file():
+            sys.exit(f"rattle build in {crate} left no {MODULE}: this toolchain compiles in another way")
+        said.write_text(sum_before)
+    return made
+
+
+def words_of(name: str, target: str) -> list[str]:
+    """The words by which rattle proves and builds a static library over the libraries below it."""
+    real, names = kit(), listed()
+    words = [str(real / "bin" / "rattle"), "build", "src/lib.rt", "--crate-name", name, "--crate-type", "staticlib", "--backend", "llvm"]
+    for it in ("std", *names[name]):
+        words += ["--extern", f"{it}={library(it) if it in names else real / 'rlibs' / f'{it}.rlib'}"]
+    for folder in (real / "rlibs", *(library(it).parent for it in below(name))):
+        words += ["-L", f"dependency={folder}"]
+    words += ["--antt-project", str(real / "rattle" / "logic" / "antt-project.json"), "--logic-built", str(real / "logic_built")]
+    # (that it declares no function of C is checked too)
+    words += ["--links", f"{name}=", "--target", TARGETS[target].triple, "--incremental", "out/incremental"]
+    return [*words, "--jobs", str(min(2, len(os.sched_getaffinity(0))))]
 
 
 def sum_of(crates: pathlib.Path) -> str:
@@ -73,67 +170,21 @@ def sum_of(crates: pathlib.Path) -> str:
     return told.hexdigest()
 
 
-def proved(crate: pathlib.Path) -> pathlib.Path:
-    """Proves a static library and builds it for x86-64: gives its archive, and keeps its module."""
-    module, said = kept(crate)
-    sum_before = sum_of(crate.parent)
-    said.unlink(missing_ok=True)
-    module.parent.mkdir(exist_ok=True)
-    with tempfile.TemporaryDirectory() as place:
-        rt = shadow(pathlib.Path(place), module)
-        words = [sys.executable, str(rt), "lib"]
-        done = subprocess.run(words, cwd=crate, stdout=subprocess.PIPE, stderr=subprocess.STDOUT, text=True)
-    if done.returncode:
-        sys.exit(f"rt lib in {crate}: status {done.returncode}\n{done.stdout[-2000:]}")
-    if not module.is_file():
-        sys.exit(f"rt lib in {crate} left no {MODULE}: this toolchain compiles in another way")
-    said.write_text(sum_before)
-    return crate / "out" / f"lib{crate.name}.a"
-
-
-def kept(crate: pathlib.Path) -> tuple[pathlib.Path, pathlib.Path]:
+def kept(name: str) -> tuple[pathlib.Path, pathlib.Path]:
     """Where the module of a crate is kept, and the sum of what it comes from."""
-    return crate / "out" / f"{crate.name}.bc", crate / "out" / f"{crate.name}.bc.sum"
+    out = CRATES / name / "out"
+    return out / f"{name}.bc", out / f"{name}.bc.sum"
 
 
-def is_kept(crate: pathlib.Path) -> bool:
+def is_kept(name: str) -> bool:
     """Whether the module of a crate is kept, and of what is there now."""
-    module, said = kept(crate)
-    return module.is_file() and said.is_file() and said.read_text() == sum_of(crate.parent)
+    module, said = kept(name)
+    return module.is_file() and said.is_file() and said.read_text() == sum_of(CRATES)
 
 
-def take_kept() -> None:
-    """Gives each crate the library that `rt ci` kept of the same files over the same libraries, as a later `rt ci` would have
-    it, by the toolchain's own calls. A toolchain that has none of these keeps nothing for us, and `rt lib` proves all."""
-    loader = importlib.machinery.SourceFileLoader("rt", os.path.realpath(shutil.which("rt") or sys.exit("rt is not installed")))
-    spec = importlib.util.spec_from_loader("rt", loader)
-    assert spec
-    rt = importlib.util.module_from_spec(spec)
-    try:
-        loader.exec_module(rt)
-        rt.Crate.allowed = rt.handles_of(str(CRATES.parent))
-        crates = [crate for crate in rt.rtlib.crates_below(str(CRATES)) if not crate.is_program and not crate.is_static]
-        kept = rt.Kept(crates)
-        known: set[str] = set()
-        for crate in crates:
-            if known.issuperset(it.name for it in crate.below()):
-                if not crate.is_built():
-                    # (what a run left there in part would be taken for more than what was kept)
-                    shutil.rmtree(pathlib.Path(crate.folder) / "out" / "rlib", ignore_errors=True)
-                if crate.is_built() or kept.give(crate, False, kept.key(crate)):
-                    kept.is_built(crate)
-                    known.add(crate.name)
-                    (pathlib.Path(crate.folder) / "out" / "rlib" / "stamp").write_text(crate.stamp())
-    except (AttributeError, OSError, TypeError, SystemExit) as fault:
-        print(f"what rt ci kept was not taken over: {fault}", file=sys.stderr)
-
-
-def modules(names: tuple[str, ...] = NAMES) -> list[pathlib.Path]:
+def modules(names: tuple[str, ...] = NAMES, is_after_ci: bool = False) -> list[pathlib.Path]:
     """The modules of these crates, which are proved where none is kept of what they are now."""
-    crates = [CRATES / name for name in names]
-    missing = [crate for crate in crates if not is_kept(crate)]
-    if missing:
-        take_kept()
-    for crate in missing:
-        proved(crate)
-    return [kept(crate)[0] for crate in crates]
+    for name in names:
+        if not is_kept(name):
+            built(name, is_after_ci=is_after_ci)
+    return [kept(name)[0] for name in names]

@@ -12,3 +12,4 @@ mod saving;
 mod sent;
 mod server;
 mod server_handle;
+mod told;

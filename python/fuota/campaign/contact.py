@@ -2,9 +2,11 @@
 import enum
 from typing import Any
 
+from ..library import STAGES
 from .plan import Retry
 
-SETUP = ("version", "group", "fragments", "window")
+# The stages before the fragments.
+SETUP = STAGES[:STAGES.index("status")]
 # After this many reports of missing pieces once sending has ended, give up.
 BELIEVED = 3
 

@@ -3,8 +3,10 @@ import fcntl
 import os
 import pathlib
 
+from .. import library
 from ..errors import Wrong
 from .journal import Journal
+from .plan import Plan
 
 
 class Folder:
@@ -19,21 +21,40 @@ class Folder:
         except BlockingIOError:
             raise Wrong(f"{self.path}: another fuota-campaign works on it") from None
         self.directory = os.open(self.path, os.O_RDONLY | os.O_DIRECTORY | os.O_CLOEXEC)
-        self.saved = self.read()
+        self._saved = self._read()
         self.journal = Journal(self.path / "journal")
-        if self.saved is None and self.journal.lines:
+        if not self.has_server and self.journal.lines:
             raise Wrong(f"{self.path}: there is a journal and no state: frame counts could be sent twice")
 
-    def read(self) -> bytes | None:
+    def _read(self) -> bytes | None:
         """The bytes that were kept; None where there are none."""
         try:
             return (self.path / "state").read_bytes()
         except FileNotFoundError:
             return None
 
+    @property
+    def has_server(self) -> bool:
+        """Whether a server was kept."""
+        return self._saved is not None
+
+    def server_of(self, plan: Plan, calls: library.Library | None) -> library.Server:
+        """The server of a plan as it was kept, or else at its start."""
+        words = plan.for_library(), plan.devices_for_library, plan.image.data
+        try:
+            if self._saved is None:
+                return library.Server(*words, calls)
+            return library.Server.restore(*words, self._saved, calls)
+        except library.Corrupt:
+            raise Wrong(f"{self.path / 'state'}: broken, or of another plan or image; nothing was sent") from None
+        except library.WrongField as why:
+            raise Wrong(f"{plan.file}: the library refuses it: {why.field.name}") from None
+        except library.Refused:
+            raise Wrong(f"{plan.file}: image: the library says that it is not an image file") from None
+
     def keep(self, saved: bytes) -> None:
         """Puts bytes in the place of those that were kept: all of them, or none."""
-        if saved == self.saved:
+        if saved == self._saved:
             return
         new = self.path / "state.new"
         with open(new, "wb") as handle:
@@ -42,7 +63,7 @@ class Folder:
             os.fsync(handle.fileno())
         os.replace(new, self.path / "state")
         os.fsync(self.directory)
-        self.saved = saved
+        self._saved = saved
 
     def close(self) -> None:
         for handle in (self.journal.handle, self.directory, self.lock):

@@ -69,6 +69,8 @@ class History:
         self.contacts: dict[str, Contact] = {}
         self.carrier: str | None = None
         self.index, self.fragments = 0, 0
+        # How many fragments were taken from the server.
+        self.number = 0
         self.begin, self.last = 0, 0
         # When fragments went out; and by unicast and to the group the last payload's moment and its ms on the air.
         self.fragments_at: list[int] = []
@@ -83,6 +85,8 @@ class History:
             self.begin, self.carrier = line["t"], line["by"]
             self.index, self.fragments = line["index"], line["fragments"]
             self.contacts = {eui: Contact(number, eui, self.begin, self.retry) for number, eui in enumerate(line["devices"], 1)}
+        if "number" in line:
+            self.number = line["number"]
         if line.get("sent") == "fragment":
             self.fragments_at.append(line["t"])
         if "air" in line:

@@ -6,8 +6,6 @@ from typing import Any
 
 from .. import library
 from ..errors import Wrong
-from . import _saved
-from ._saved import STAGES
 from .carrier import Carrier, Lost, Uplink
 from .contact import SETUP, Contact
 from .folder import Folder
@@ -62,23 +60,10 @@ class Campaign:
         self.copies: list[tuple[Contact, int, library.Down]] = []
         self.history = History(folder.journal.lines, plan.retry)
         self.pace = Pace(plan, self.history.sent)
-        self.server = self.made(calls)
+        self.server = folder.server_of(plan, calls)
         self.begin()
 
     # ---- Begun, and begun again
-
-    def made(self, calls: library.Library | None) -> library.Server:
-        """The server at its start, or as it was kept."""
-        plan, saved = self.plan, self.folder.saved
-        words = plan.for_library(), plan.devices_for_library, plan.image.data
-        try:
-            return library.Server(*words, calls) if saved is None else library.Server.restore(*words, saved, calls)
-        except library.Corrupt:
-            raise Wrong(f"{self.folder.path / 'state'}: broken, or of another plan or image; nothing was sent") from None
-        except library.WrongField as why:
-            raise Wrong(f"{plan.file}: the library refuses it: {why.field.name}") from None
-        except library.Refused:
-            raise Wrong(f"{plan.file}: image: the library says that it is not an image file") from None
 
     def begin(self) -> None:
         """Holds plan and carrier against the journal, and notes the begin."""
@@ -87,16 +72,18 @@ class Campaign:
         is_new = not self.history.contacts
         if not is_new and (list(self.history.contacts), self.history.carrier) != (euis, self.carrier.name):
             raise Wrong(f"{self.folder.path}: its campaign was begun with other devices, or by {self.history.carrier}")
-        if self.folder.saved is None:
+        if not self.folder.has_server:
             self.refuse_unfit(now)
         self.keep()
         if is_new:
             self.note(version=VERSION, devices=euis, by=self.carrier.name, index=self.plan.index, fragments=self.plan.fragments)
         else:
-            self.note(again=True)
+            self.note(again=True, number=self.sent)
         for contact in self.contacts:
             contact.resume()
-            contact.move(now, self.stage_of(contact))
+            # (what was kept of the server may be a line ahead of the journal)
+            if contact.stage != self.stage_of(contact):
+                self.note(device=contact.eui, stage=self.stage_of(contact))
 
     def refuse_unfit(self, now: int) -> None:
         """A campaign that can't end well is not begun."""
@@ -111,19 +98,11 @@ class Campaign:
         return list(self.history.contacts.values())
 
     def stage_of(self, contact: Contact) -> str:
-        """Where a device stands, as a name."""
-        told = self.server.ledger(contact.number)
-        if told.stage == library.StageKind.UPDATED:
-            return "updated"
-        return "refused" if told.stage == library.StageKind.STOPPED else STAGES[told.request - 1]
+        """Where a device stands, as a word."""
+        return self.server.ledger(contact.number).word
 
     def keep(self) -> None:
         self.folder.keep(self.server.save())
-
-    @property
-    def saved(self) -> bytes:
-        """What was kept of the server."""
-        return self.folder.saved or b""
 
     def note(self, **told: Any) -> None:
         """Writes a line of the journal, and takes over what it says."""
@@ -136,12 +115,12 @@ class Campaign:
     @property
     def sent(self) -> int:
         """How many fragments were taken from the server."""
-        return _saved.next_fragment(self.saved) - 1
+        return self.server.fragment_number() - 1
 
     @property
     def group_payloads(self) -> int:
         """How many payloads were taken for the group."""
-        return _saved.next_count(self.saved) - (self.plan.group.first if self.plan.group else 0)
+        return self.server.frame_count() - (self.plan.group.first if self.plan.group else 0)
 
     def within(self, moment: float) -> float | None:
         """The moment, or the window's begin if that is later; None after the window's end."""
@@ -302,7 +281,7 @@ class Campaign:
     def counts(self) -> dict[str, int]:
         """How many devices stand where, in order."""
         names = [contact.word for contact in self.contacts]
-        return {name: names.count(name) for name in (*STAGES, "refused", "incomplete", "silent") if name in names}
+        return {name: names.count(name) for name in (*library.STAGES, "incomplete", "silent") if name in names}
 
     def left(self) -> float:
         """About how many ms the fragments take still."""

@@ -6,19 +6,18 @@ from typing import TextIO
 
 from .. import svg
 from ..errors import Wrong
+from ..library import STAGES
 from ..svg import BLUE, GREEN, GREY, ORANGE, drawn_path, text
 from ..theory import duration
-from . import _saved
-from .contact import Standing
 from .journal import History, lines_of
 from .plan import Retry, moment_of
 from .play import Campaign
 
 RED = "#cf222e"
 # What is drawn of a stage: its colour and how opaque it is.
-COLOURS = {"version": (GREY, 0.25), "group": (GREY, 0.45), "fragments": (GREY, 0.65), "window": (GREY, 0.9),
-           "status": (BLUE, 1), "image": (ORANGE, 0.4), "reboot": (ORANGE, 0.7), "check": (ORANGE, 1), "updated": (GREEN, 1),
-           "refused": (RED, 1)}
+COLOURS = dict(zip(STAGES, (
+    (GREY, 0.25), (GREY, 0.45), (GREY, 0.65), (GREY, 0.9), (BLUE, 1), (ORANGE, 0.4), (ORANGE, 0.7), (ORANGE, 1), (GREEN, 1),
+    (RED, 1))))
 A_MINUTE = 60_000
 # A folder is read without its plan: nothing is asked.
 NO_RETRY = Retry(distance=0, tries=1)
@@ -61,28 +60,24 @@ class Progress:
 
 
 class Kept:
-    """What the folder of a campaign tells, without its plan."""
+    """What the journal of a campaign tells, without its plan."""
 
     def __init__(self, path: str | pathlib.Path) -> None:
         path = pathlib.Path(path)
         try:
-            text, self.saved = (path / "journal").read_bytes(), (path / "state").read_bytes()
+            text = (path / "journal").read_bytes()
         except OSError as why:
             raise Wrong(f"{why.filename}: {why.strerror}") from None
         self.history = History(lines_of(text, path / "journal"), NO_RETRY)
-        self.stages = _saved.stages_of(self.saved)
-        if not self.history.contacts or len(self.stages) != len(self.history.contacts):
+        if not self.history.contacts:
             raise Wrong(f"{path}: no campaign is kept there")
 
     def table(self) -> Iterator[str]:
         """A line for the campaign, and one for each device."""
-        yield (f"fragments {_saved.next_fragment(self.saved) - 1} of {self.history.fragments}, "
-               f"last change {moment_of(self.history.last)}")
+        yield f"fragments {self.history.number} of {self.history.fragments}, last change {moment_of(self.history.last)}"
         yield f"{'device':<16}  {'stage':<17}  missing  last heard"
-        for contact, stage in zip(self.history.contacts.values(), self.stages):
-            # (a stage that was kept may be one ahead of the journal)
-            if contact.standing is Standing.SILENT and contact.stage == stage:
-                stage += f", {contact.word}"
+        for contact in self.history.contacts.values():
+            stage = f"{contact.stage}, {contact.word}" if contact.is_silent else contact.stage
             missing = "-" if contact.missing is None else contact.missing
             heard = "-" if contact.heard_at is None else moment_of(contact.heard_at)
             yield f"{contact.eui:<16}  {stage:<17}  {missing:>7}  {heard}"

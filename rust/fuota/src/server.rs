@@ -221,6 +221,20 @@ impl Server {
         })
     }
 
+    /// The number of the fragment that is sent next, from 1; where all were sent, one more than that of the last.
+    pub fn fragment_number(&self) -> u16 {
+        let mut number = 0;
+        sys::fuota_server_fragment_number(&self.handle, &mut number);
+        number
+    }
+
+    /// The group's next frame count, from its `min` to its `max`, where none is left; 0 without a group.
+    pub fn frame_count(&self) -> u32 {
+        let mut count = 0;
+        sys::fuota_server_frame_count(&self.handle, &mut count);
+        count
+    }
+
     /// What the server knows, as bytes for [`restore`](Server::restore). They are saved before the payload of a call goes out.
     pub fn save(&self) -> SavedServer {
         let mut into = [0; sys::SAVED_SERVER];

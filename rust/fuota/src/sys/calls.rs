@@ -120,6 +120,8 @@ unsafe extern "C" {
     ) -> u8;
     pub safe fn fuota_server_ledger(handle: &Server, dev: u8, out: &mut Stage) -> u8;
     pub safe fn fuota_server_last_status(handle: &Server, dev: u8, out: &mut Status) -> u8;
+    pub safe fn fuota_server_fragment_number(handle: &Server, number: &mut u16) -> u8;
+    pub safe fn fuota_server_frame_count(handle: &Server, count: &mut u32) -> u8;
     fn fuota_server_save(handle: &Server, into: *mut u8, room: u64) -> u64;
     fn fuota_server_restore(
         handle: &mut Server,

@@ -107,6 +107,7 @@ fn fragments_go_to_the_group_as_frames() {
     assert_eq!((all.via, all.payload.len()), (Via::Group { addr: 0, count: 2 }, 2));
     assert_eq!(server.status_all(), Err(Error::Spent));
     assert_eq!(server.next_fragment(), Err(Error::Spent));
+    assert_eq!((server.fragment_number(), server.frame_count()), (3, 3));
 }
 
 #[test]
@@ -120,6 +121,7 @@ fn fragments_end() {
     }
     assert_eq!(count, 5);
     assert_eq!(server.next_fragment(), Ok(None));
+    assert_eq!((server.fragment_number(), server.frame_count()), (6, 0));
 }
 
 #[test]
