@@ -89,12 +89,12 @@ pub record Keeps (w end : WorldState) : Type 0 where
   pub devices : IsConfiguredAs w.devices end.devices
 
 -- a server whose plan, image and stages are these
-record IsServer (old new : ServerState) : Type 0 where
-  plan : new.plan ≡ old.plan
-  image : new.image ≡ old.image
-  stages : (id : ℕ) (stage : Stage) → numbered old.stages id ≡ Some stage → (later : Stage) × (numbered new.stages id ≡ Some later) × IsLater stage later
+pub record IsServer (old new : ServerState) : Type 0 where
+  pub plan : new.plan ≡ old.plan
+  pub image : new.image ≡ old.image
+  pub stages : (id : ℕ) (stage : Stage) → numbered old.stages id ≡ Some stage → (later : Stage) × (numbered new.stages id ≡ Some later) × IsLater stage later
 
-same_server : (old new : ServerState) → new.plan ≡ old.plan → new.image ≡ old.image → new.stages ≡ old.stages → IsServer old new
+pub same_server : (old new : ServerState) → new.plan ≡ old.plan → new.image ≡ old.image → new.stages ≡ old.stages → IsServer old new
 same_server old new plan image stages = record {
   plan = plan;
   image = image;
@@ -120,7 +120,7 @@ sends_keep w server to None on = keeps_by w _ refl on [] (sym (append-nil w.sent
 sends_keep w server to (Some x) on =
     keeps_by w _ refl on (record { receiver = to; down = downlink_of x } ∷ []) refl [] (sym (append-nil w.uplinks)) (same_devices w.devices w.devices refl)
 
-answers_on : (server : ServerState) (dev : ℕ) (cs : List Command) (old : Option Stage) → numbered server.stages dev ≡ old → IsServer server (with_answers server dev cs old)
+pub answers_on : (server : ServerState) (dev : ℕ) (cs : List Command) (old : Option Stage) → numbered server.stages dev ≡ old → IsServer server (with_answers server dev cs old)
 answers_on server dev cs None there = same_server server server refl refl refl
 answers_on server dev cs (Some old) there = record { plan = refl; image = refl; stages = stages }
   where

@@ -10,3 +10,4 @@ pub mod Progress
 pub mod Lines
 pub mod Framing
 pub mod Exchanging
+pub mod OnceAtServer

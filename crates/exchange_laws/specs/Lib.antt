@@ -2,3 +2,4 @@ pub mod Exchange
 pub mod Suits
 pub mod Moving
 pub mod Updating
+pub mod OnceAtServer

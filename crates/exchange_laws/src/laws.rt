@@ -1,6 +1,7 @@
 //! Laws about the definitions, each the contract of a function with an empty body.
 
 ghost use Rattle.exchange_laws.specs.Moving.{ExchangesMove};
+ghost use Rattle.exchange_laws.specs.OnceAtServer.{MovesOnceAtServer};
 ghost use Rattle.exchange_laws.specs.Updating.{ExchangesMoveOn, AnswersUpdate};
 
 /// Where a server asks a device that it reaches, and the uplink that the device makes comes to the server, the stage after it is
@@ -24,4 +25,11 @@ pub fn an_exchange_moves_a_campaign_on()
 /// status is asked for.
 pub fn a_device_that_answers_is_updated()
     ensures { AnswersUpdate }
+{}
+
+/// For any server and any uplink that a device makes: where it has moved the device's stage, it moves no stage when it comes again,
+/// whatever calls of the server come between. A device whose version is asked for first must not run the image's version then: the
+/// same words would tell it at the check.
+pub fn an_uplink_moves_a_server_once()
+    ensures { MovesOnceAtServer }
 {}
