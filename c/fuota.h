@@ -20,7 +20,7 @@
  *     its size;
  *   - no call comes from a signal handler, or from the forked child of a process with threads;
  *   - there is stack for the call: docs/SAMPLES.md says how much. fuota_run takes the most, up to 125 KB, and of the others
- *     fuota_device_restore, 10 KB, for which a thread of Linux wants 16 KB.
+ *     fuota_server_restore, some 7 KB, for which a thread of Linux wants 16 KB.
  * Numbers in structs are in the byte order of the machine; payloads, keys and saved bytes are bytes in their order.
  */
 #ifndef FUOTA_H
