@@ -98,7 +98,7 @@ byte_at image at bytes = elim (cases_lt at (length image)) [
   | inr ge ↦ let none : get_or image at 0 ≡ 0 = get_or_past image at 0 ge in omega (arith, none)
 ]
 
-firmware_small : (image : List ℕ) → All (λ b. b < 2 ^ 8) image → firmware_of image < 2 ^ 32
+pub firmware_small : (image : List ℕ) → All (λ b. b < 2 ^ 8) image → firmware_of image < 2 ^ 32
 unfolding firmware_of number_at
 firmware_small image bytes =
     let at : ℕ = 9 + further image in

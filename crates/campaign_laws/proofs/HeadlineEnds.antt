@@ -92,7 +92,7 @@ followed_set : (image : List ℕ) (cut : Cut) (n : ℕ) (part : List ℕ) (mark 
 unfolding followed
 followed_set image cut n part mark f s k = record { setup = k.setup; makes = k.makes; heard = (f, k.heard) }
 
-fragment_set : (image : List ℕ) (cut : Cut) (s : Option Session) (way : Via) (n : ℕ) (part : List ℕ) (mark : ℕ)
+pub fragment_set : (image : List ℕ) (cut : Cut) (s : Option Session) (way : Via) (n : ℕ) (part : List ℕ) (mark : ℕ)
     → IsFragmentOf image cut.size (record { number = n; part = part; mark = mark })
     → IfSome s (IsSetFor image cut) → IfSome (after_fragment s way n part mark) (IsSetFor image cut)
 fragment_set image cut s way n part mark f k =

@@ -7,10 +7,8 @@ use Rattle.std.specs.Result.{result_ok}
 use Rattle.wire_base.specs.declared.refusal.Direction.TheVariants.{Down}
 use Rattle.wire_base.specs.Numbered.{numbered}
 use Rattle.aes_block.specs.Cipher.{IsBlock}
-use Rattle.mc_keys.specs.Keys.{mc_ke_key}
-use Rattle.mc_keys.specs.Roots.{root_of}
 use Rattle.clock_sync.specs.Clock.{correction_of, is_answer_needed}
-use Rattle.cast_wire.specs.declared.cmd.Cmd.TheVariants.{FragSessionStatusReq, McGroupSetupReq}
+use Rattle.cast_wire.specs.declared.cmd.Cmd.TheVariants.{FragSessionStatusReq}
 use Rattle.sync_wire.specs.declared.cmd.Cmd.{Cmd as SyncCmd}
 use Rattle.sync_wire.specs.declared.cmd.Cmd.TheVariants as s
 use Rattle.package_grammar.specs.declared.command.Command.{Command}
@@ -18,7 +16,7 @@ use Rattle.package_grammar.specs.declared.command.Command.TheVariants.{Sync, Cas
 use Rattle.package_grammar.specs.declared.downlink.To.{To}
 use Rattle.package_grammar.specs.declared.downlink.To.TheVariants as to
 use Rattle.package_grammar.specs.declared.downlink.Downlink.{Downlink}
-use Rattle.package_grammar.specs.Grammar.{canonical}
+use Rattle.package_grammar.specs.Grammar.{canonical, IsValid}
 use Rattle.package_grammar.specs.Reading.{reading_of}
 use Rattle.mc_group.specs.Groups.{group_at}
 use Rattle.mc_group.specs.declared.group.Group.{Group}
@@ -36,7 +34,6 @@ use Rattle.campaign_server.specs.declared.fragments.Spent.{Spent}
 use Rattle.campaign_server.specs.declared.fragments.Spent.TheVariants.{Fragments, Counts}
 use Rattle.campaign_server.specs.Plan.{Plan, fits_bits, own_id}
 use Rattle.campaign_server.specs.Server.{ServerState, DownlinkCommand, first_count, port_of, downlink_of, ledger}
-use Rattle.campaign_server.specs.Wrapping.{wrapped_key}
 use Rattle.campaign_server.specs.Asking.{cast_of, group_request, fragments_request, window_request_of, window_request, request_at, command_for, by_unicast, request_of}
 use Rattle.campaign_server.specs.Fragments.{receivers, has_no_count, next_count, after_count, next_fragment, after_fragment, status_to_all, after_status_to_all}
 use Rattle.campaign_server.specs.Time.{time_answer_to, first_answer, time_answer}
@@ -164,15 +161,20 @@ away_kept plan receiver x away = record {
   framed = λ addr count is. no_group addr count is;
 }
 
--- the group's setup: the device that it reaches unwraps the plan's key
+-- the group's setup, to a device that has this key
+pub group_valid : (g : PlanGroup) (k : PlanDevice) → FitsGroup g → IsBlock k.key → IsValid (Cast (group_request k g))
+group_valid g k fits key = record {
+  fields = ((omega (arith, fits.id), tt), (fits.addr, (tt, (fits.min, (fits.max, tt)))));
+  whole = wrapped_long k.root k.key g.key key fits.key;
+}
+
+-- the device that it reaches unwraps the plan's key
 group_mild : (g : PlanGroup) (config : Configuration) → FitsGroup g → IsBlock config.key
     → IsMildReading (Some g) config
     (reading_of 200 Down (canonical (Cast (group_request (record { key = config.key; root = config.root }) g))))
 group_mild g config fits key =
-    let wrapped = wrapped_key (mc_ke_key (root_of config.root config.key)) g.key in
-    let whole : length wrapped ≡ 16 = wrapped_long config.root config.key g.key key fits.key in
-    single_mild (Some g) config (Cast (McGroupSetupReq g.id g.addr wrapped g.min g.max))
-    (record { fields = ((omega (arith, fits.id), tt), (fits.addr, (tt, (fits.min, (fits.max, tt))))); whole = whole })
+    single_mild (Some g) config (Cast (group_request (record { key = config.key; root = config.root }) g))
+    (group_valid g (record { key = config.key; root = config.root }) fits key)
     (record { port_is = refl; direction_is = refl })
     (ap (λ (k : List ℕ). let x : Group = record { addr = g.addr; key = k; min = g.min; max = g.max } in x)
     (unwraps config.root config.key g.key key fits.key))
@@ -216,25 +218,19 @@ first_part : (a b : Bool) → (a && b) ≡ true → a ≡ true
 first_part true b is = refl
 first_part false b is = absurd cc
 
-window_mild : (own : Option PlanGroup) (config : Configuration) (id start timeout freq dr : ℕ) (k : Kind) → id ≤ 3
+pub window_valid : (id start timeout freq dr : ℕ) (k : Kind) → id ≤ 3
     → fits_bits (record { kind = k; start = start; timeout = timeout; freq = freq; dr = dr }) ≡ true
-    → IsMildReading own config (reading_of 200 Down (canonical (Cast
-    (window_request id (record { kind = k; start = start; timeout = timeout; freq = freq; dr = dr })))))
-window_mild own config id start timeout freq dr kind.C few is =
-    let x : PlanWindow = record { kind = kind.C; start = start; timeout = timeout; freq = freq; dr = dr } in
-    let fits = fits_window x true is in
-    single_mild own config (Cast (window_request id x))
-    (record {
+    → IsValid (Cast (window_request id (record { kind = k; start = start; timeout = timeout; freq = freq; dr = dr })))
+window_valid id start timeout freq dr kind.C few is =
+    let fits = fits_window (record { kind = kind.C; start = start; timeout = timeout; freq = freq; dr = dr }) true is in
+    record {
       fields = ((omega (arith, few), tt), (fits.start, ((omega (arith, fits.timeout), tt), (fits.freq, (omega (arith, fits.dr), tt)))));
       whole = tt;
-    })
-    (record { port_is = refl; direction_is = refl }) tt
-window_mild own config id start timeout freq dr (kind.B periodicity) few is =
-    let x : PlanWindow = record { kind = kind.B periodicity; start = start; timeout = timeout; freq = freq; dr = dr } in
-    let fits = fits_window x (nat_le periodicity 7) is in
+    }
+window_valid id start timeout freq dr (kind.B periodicity) few is =
+    let fits = fits_window (record { kind = kind.B periodicity; start = start; timeout = timeout; freq = freq; dr = dr }) (nat_le periodicity 7) is in
     let short : periodicity ≤ 7 = leb-true _ _ (low is) in
-    single_mild own config (Cast (window_request id x))
-    (record {
+    record {
       fields = (
         (omega (arith, few), tt),
         (
@@ -246,18 +242,28 @@ window_mild own config id start timeout freq dr (kind.B periodicity) few is =
         ),
       );
       whole = tt;
-    })
-    (record { port_is = refl; direction_is = refl }) tt
+    }
   where
     low : (nat_le periodicity 7 && nat_lt start (2 ^ 32) && nat_le timeout 15 && nat_lt freq (2 ^ 24) && nat_le dr 255) ≡ true
         → nat_le periodicity 7 ≡ true
     low is = first_part _ _ (first_part _ _ (first_part _ _ (first_part _ _ is)))
 
-own_low : (group : Option PlanGroup) → IfSome group FitsGroup → own_id group ≤ 3
+window_mild : (own : Option PlanGroup) (config : Configuration) (id start timeout freq dr : ℕ) (k : Kind) → id ≤ 3
+    → fits_bits (record { kind = k; start = start; timeout = timeout; freq = freq; dr = dr }) ≡ true
+    → IsMildReading own config (reading_of 200 Down (canonical (Cast
+    (window_request id (record { kind = k; start = start; timeout = timeout; freq = freq; dr = dr })))))
+window_mild own config id start timeout freq dr kind.C few is =
+    single_mild own config (Cast (window_request id (record { kind = kind.C; start = start; timeout = timeout; freq = freq; dr = dr })))
+    (window_valid id start timeout freq dr kind.C few is) (record { port_is = refl; direction_is = refl }) tt
+window_mild own config id start timeout freq dr (kind.B periodicity) few is =
+    single_mild own config (Cast (window_request id (record { kind = kind.B periodicity; start = start; timeout = timeout; freq = freq; dr = dr })))
+    (window_valid id start timeout freq dr (kind.B periodicity) few is) (record { port_is = refl; direction_is = refl }) tt
+
+pub own_low : (group : Option PlanGroup) → IfSome group FitsGroup → own_id group ≤ 3
 own_low None fits = lit≤ tt
 own_low (Some g) fits = fits.id
 
-window_port : (x : PlanWindow) (id : ℕ) (k : Kind) → port_of (Cast (window_request_of id x k)) ≡ 200
+pub window_port : (x : PlanWindow) (id : ℕ) (k : Kind) → port_of (Cast (window_request_of id x k)) ≡ 200
 window_port x id kind.C = refl
 window_port x id (kind.B periodicity) = refl
 

@@ -72,12 +72,12 @@ none_updated n id is =
 -- ---- a campaign
 
 -- its hardware version has its bits, and its slots are the image's
-record IsFit (image : List ℕ) (d : DeviceState) : Type 0 where
-  hardware : d.config.hw < 2 ^ 32
+pub record IsFit (image : List ℕ) (d : DeviceState) : Type 0 where
+  pub hardware : d.config.hw < 2 ^ 32
   slots : HasSlots image d.slots
 
 -- it is a command of the server's, and on port 203 one of those that it asks of firmware management
-abbrev IsOwnPayload : SentPayload → Type 0
+abbrev pub IsOwnPayload : SentPayload → Type 0
 IsOwnPayload p = (down : DownlinkCommand) × IsOwn down × (p.down ≡ downlink_of down)
 
 -- where an uplink tells the image's version, its device runs the image
@@ -85,11 +85,11 @@ abbrev pub MadeTruly : List ℕ → List DeviceState → NumberedUplink → Type
 MadeTruly image ds made = TellsTruly image (Runs image ds made.device) made.uplink
 
 -- what holds after each line
-record Holds (image : List ℕ) (w : WorldState) : Type 0 where
-  devices : (id : ℕ) (d : DeviceState) → numbered w.devices id ≡ Some d → IsFit image d
-  sent : AllByRecursion IsOwnPayload w.sent
-  uplinks : AllByRecursion (MadeTruly image w.devices) w.uplinks
-  ledger : (id : ℕ) → numbered w.server.stages id ≡ Some Updated → Runs image w.devices id
+pub record Holds (image : List ℕ) (w : WorldState) : Type 0 where
+  pub devices : (id : ℕ) (d : DeviceState) → numbered w.devices id ≡ Some d → IsFit image d
+  pub sent : AllByRecursion IsOwnPayload w.sent
+  pub uplinks : AllByRecursion (MadeTruly image w.devices) w.uplinks
+  pub ledger : (id : ℕ) → numbered w.server.stages id ≡ Some Updated → Runs image w.devices id
 
 -- ---- a payload is sent
 
@@ -253,7 +253,7 @@ sound_of image cut d k fit = record {
   outbox = subst (AllByRecursion (TellsTruly image (IsRunning image d.slots))) (sym k.empty) tt;
 }
 
-device_sound : (image : List ℕ) (w : WorldState) (n : ℕ) (d : DeviceState) → Keeps image w → Holds image w
+pub device_sound : (image : List ℕ) (w : WorldState) (n : ℕ) (d : DeviceState) → Keeps image w → Holds image w
     → numbered w.devices n ≡ Some d → IsSound image (cut_of w.server.plan) d
 device_sound image w n d k h there =
     sound_of image (cut_of w.server.plan) d
@@ -424,7 +424,7 @@ said_holds image w (Reached n word down) bytes is k h fine honest =
     (crossing_goes image (cut_of w.server.plan) w.server.plan.index w.time word (w.lines + 1) down d.1.0 (not_true _ honest) alone
     (device_sound image w n d.1.0 k h d.1.1)) h)
 
-line_holds : (image : List ℕ) (index : ℕ) (w : WorldState) (line : Line) → All (λ b. b < 2 ^ 8) image
+pub line_holds : (image : List ℕ) (index : ℕ) (w : WorldState) (line : Line) → All (λ b. b < 2 ^ 8) image
     → is_image image ≡ true → Stands image index w → Holds image w → cause_of w line ≡ None → LineFits index line
     → line_cause w line ≡ None → has_raw index line ≡ false → Holds image (after_line w line)
 line_holds image index w (Err cause) bytes is k h none fits fine honest = absurd cc
@@ -450,7 +450,7 @@ none_by : (d : DeviceState) (b : Bool) → cond b None None ≡ Some d → ⊥
 none_by d true is = cc
 none_by d false is = cc
 
-first_holds : (image : List ℕ) → Holds image (first_world image)
+pub first_holds : (image : List ℕ) → Holds image (first_world image)
 first_holds image = record {
   devices = λ id d is. absurd (none_by d (id == 0) is);
   sent = tt;

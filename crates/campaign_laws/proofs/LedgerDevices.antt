@@ -1,10 +1,7 @@
 -- A device of a campaign has the image in its slots, and what it tells of its version is true.
-use Rattle.std.proofs.Common.{◌≡◌, ◌⊎◌, inl, inr, ⊎_elim, ℕ, zero, suc, ◌+◌, ◌^◌, ◌<◌, Bool, true, false, cond, ◌==◌, List, [], ◌∷◌, ◌++◌, length, map, replicate, get_or, All, Option, None, Some, IfSome, Result, Ok, Err, refl, sym, ◌∙◌, subst, arith, eqb-true}
-use Rattle.std.proofs.lemmas.Bool.{cases_lt}
-use Rattle.std.proofs.lemmas.List.{get_or_past}
+use Rattle.std.proofs.Common.{◌≡◌, ◌⊎◌, inl, inr, ⊎_elim, ℕ, zero, suc, ◌^◌, ◌<◌, Bool, true, false, cond, ◌==◌, List, [], ◌∷◌, ◌++◌, map, replicate, All, Option, None, Some, IfSome, Result, Ok, Err, refl, sym, ◌∙◌, subst, arith, eqb-true}
 use Rattle.std.specs.List.{AllByRecursion}
 use Rattle.wire_base.specs.declared.refusal.Direction.TheVariants.{Down, Up}
-use Rattle.wire_base.specs.Numbers.{number_at}
 use Rattle.wire_base.specs.Rows.{IsListed}
 use Rattle.frag_encoder.specs.Encoding.{data_of}
 use Rattle.frag_session.specs.declared.answers.StatusAns.{StatusAns}
@@ -13,7 +10,7 @@ use Rattle.frag_session.specs.Session.{Session, new_session, followed, after_fra
 use Rattle.frag_session.specs.HeldHistory.{IsSetUp}
 use Rattle.image_slots.specs.declared.view.ImageState.{ImageState}
 use Rattle.image_slots.specs.declared.view.ImageState.TheVariants as state
-use Rattle.image_slots.specs.Image.{further, is_image, firmware_of}
+use Rattle.image_slots.specs.Image.{is_image, firmware_of}
 use Rattle.image_slots.specs.Slots.{Slots}
 use Rattle.cast_wire.specs.declared.cmd.Cmd.{Cmd as CastCmd}
 use Rattle.cast_wire.specs.declared.cmd.Cmd.TheVariants as c
@@ -45,7 +42,7 @@ use Rattle.device_core.specs.Fragments.{setup_step, status_answers, status_step,
 use Rattle.device_core.specs.Step.{command_step, acts, step, after_commands}
 use Rattle.campaign_laws.specs.Ledger.{IsRunning}
 use Rattle.device_core.proofs.SessionSteps.{setup_keeps, fragment_keeps}
-use Rattle.campaign_laws.proofs.HeadlineCommands.{Cut, setup_req, setup_request, fragment_command, IsNumber}
+use Rattle.campaign_laws.proofs.HeadlineCommands.{Cut, firmware_small, setup_req, setup_request, fragment_command, IsNumber}
 use Rattle.campaign_laws.proofs.OwnSession.{at_own, none_at}
 use Rattle.campaign_laws.proofs.HeadlineEnds.{IsSetFor}
 use Rattle.campaign_laws.proofs.LedgerSlots.{whole_is, HasSlots, SlotsGo, same_slots, swapped_slots, deleted_slots, offered_slots, raised_slots, TellsTruly, tells_on, other_port, one_told}
@@ -267,7 +264,7 @@ replicated : (port n : ℕ) (answer : Answer) → answer.port ≡ port
 replicated port zero answer is = tt
 replicated port (suc n) answer is = (is, replicated port n answer is)
 
-AllOn : ℕ → List Answer → Type 0
+pub AllOn : ℕ → List Answer → Type 0
 AllOn port answers = AllByRecursion (λ (a : Answer). a.port ≡ port) answers
 
 sync_answers : (at : Arrival) (m : DeviceState) (cmd : SyncCmd) → AllOn at.port (command_step at m (Sync cmd)).answers
@@ -309,7 +306,7 @@ cast_answers at m (c.McClassCSessionReq id time timeout freq dr) = (refl, tt)
 cast_answers at m (c.McClassBSessionReq id time periodicity timeout freq dr) = (refl, tt)
 cast_answers at m cmd = tt
 
-command_answers : (at : Arrival) (m : DeviceState) (x : Command) → AllOn at.port (command_step at m x).answers
+pub command_answers : (at : Arrival) (m : DeviceState) (x : Command) → AllOn at.port (command_step at m x).answers
 command_answers at m (Sync cmd) = sync_answers at m cmd
 command_answers at m (Cast cmd) = cast_answers at m cmd
 
@@ -321,17 +318,6 @@ far_answers image R port (answer ∷ answers) far all =
     (other_port image R (uplink_of answer) (λ is. far (sym all.0 ∙ is)), far_answers image R port answers far all.1)
 
 -- ---- what is answered on port 203
-
-byte_at : (image : List ℕ) (at : ℕ) → All (λ b. b < 2 ^ 8) image → get_or image at 0 < 256
-byte_at image at bytes = ⊎_elim (λ lt. bytes at 0 lt)
-    (λ ge. let none : get_or image at 0 ≡ 0 = get_or_past image at 0 ge in omega (arith, none))
-    (cases_lt at (length image))
-
-firmware_small : (image : List ℕ) → All (λ b. b < 2 ^ 8) image → firmware_of image < 2 ^ 32
-unfolding firmware_of number_at
-firmware_small image bytes =
-    let at : ℕ = 9 + further image in
-    omega (arith, byte_at image at bytes, byte_at image (at + 1) bytes, byte_at image (at + 1 + 1) bytes, byte_at image (at + 1 + 1 + 1) bytes)
 
 version_small : (image : List ℕ) (slots : Slots) → All (λ b. b < 2 ^ 8) image → HasSlots image slots
     → slots.version < 2 ^ 32

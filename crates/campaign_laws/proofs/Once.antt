@@ -121,7 +121,7 @@ line_goes w (Ok said) fine over =
     let g = said_goes w said fine over in
     record { ranks = g.ranks; uplinks = g.uplinks; image = g.image; over = g.over }
 
-all_go : (w end : WorldState) (lines : List Line) → is_planning w.section ≡ false → read_lines (Ok w) lines ≡ Ok end → Goes w end
+pub all_go : (w end : WorldState) (lines : List Line) → is_planning w.section ≡ false → read_lines (Ok w) lines ≡ Ok end → Goes w end
 unfolding read_lines
 all_go w end [] over read = let same : w ≡ end = cc in subst (Goes w) same (still w w refl refl over)
 all_go w end (line ∷ lines) over read =

@@ -53,7 +53,7 @@ use Rattle.campaign_laws.specs.Accepted.{AllSeedsHaveCampaigns}
 use Rattle.campaign_laws.proofs.Plays.{To, Plays, none, one, both, lines_read}
 use Rattle.campaign_laws.proofs.Stands.{Stand, IsOne, IsPlan, Takes, takes_first_event, stand_within, numbered_last}
 use Rattle.campaign_laws.proofs.Rounds.{had, AtTurn, rounds_to}
-use Rattle.campaign_laws.proofs.Sessions.{IsOurs, rows_suffice, no_conflict, uncoded_is}
+use Rattle.campaign_laws.proofs.Sessions.{cut, IsOurs, rows_suffice, no_conflict, uncoded_is}
 use Rattle.campaign_laws.proofs.Orders.{pieces_in}
 use Rattle.campaign_laws.proofs.Hearing.{IsMade, IsNew, IsHearing, count_of}
 use Rattle.campaign_laws.proofs.Turns.{Early, early_turns, AtStage, Late, late_turns}
@@ -321,7 +321,7 @@ late_by image d x shown.Receiving made h is rows = (x, record { plain = h.plain;
 late_by image d x (shown.Complete mark) made h is rows =
     (x, record { plain = h.plain; session = h.session; ours = h.ours; how = inr (mark, is, (refl, h.next mark is)) })
 late_by image d x (shown.NoRows mark) made h is rows = absurd (rows mark is)
-late_by image d x (shown.Conflict mark) made h is rows = absurd (no_conflict image x mark made.bytes h.ours is)
+late_by image d x (shown.Conflict mark) made h is rows = absurd (no_conflict image cut x mark made.bytes h.ours.set is)
 
 all_late : (image : List ℕ) (d : DeviceState) (s : Stage) → IsMade image → HeardAll image d s → Late image 0 d s
 all_late image d s made (skipped, (at, (x, h, (newer, older, order)))) =

@@ -20,7 +20,7 @@ use Rattle.frag_session.proofs.MissingPieces.{missing_pieces}
 use Rattle.campaign_laws.specs.Headline.{IsFragmentOf, IsRecovered}
 use Rattle.campaign_laws.proofs.HeadlineCommands.{Cut}
 use Rattle.campaign_laws.proofs.HeadlineEnds.{IsSetFor, shape_for}
-use Rattle.campaign_laws.proofs.HeadlineImage.{IsShapeFor, behind}
+use Rattle.campaign_laws.proofs.HeadlineImage.{behind}
 use Rattle.campaign_laws.proofs.HeadlineLaw.{recovered_by}
 
 -- how a seed's image is cut
@@ -56,26 +56,23 @@ pub record IsOurs (image : List ℕ) (x : Session) : Type 0 where
   pub set : IsSetFor image cut x
   pub rows : x.rows ≡ 64
 
-shape_is : (image : List ℕ) (x : Session) → All (λ b. b < 2 ^ 8) image → IsOurs image x → IsShapeFor image (shape_of x) x.setup.padding × ((shape_of x).frag_size ≡ 64)
-shape_is image x bytes ours = shape_for image cut x bytes ours.set
-
-recovered_is : (image : List ℕ) (x : Session) → All (λ b. b < 2 ^ 8) image → IsOurs image x → IsRecovered image x
-recovered_is image x bytes ours =
-    let h = shape_is image x bytes ours in
-    recovered_by image x h.0 (subst (λ (n : ℕ). AllByRecursion (IsFragmentOf image n) x.heard) (sym h.1) ours.set.heard)
+recovered_is : (image : List ℕ) (its : Cut) (x : Session) → All (λ b. b < 2 ^ 8) image → IsSetFor image its x → IsRecovered image x
+recovered_is image its x bytes set =
+    let h = shape_for image its x bytes set in
+    recovered_by image x h.0 (subst (λ (n : ℕ). AllByRecursion (IsFragmentOf image n) x.heard) (sym h.1) set.heard)
 
 pub complete_is_image : (image : List ℕ) (x : Session) (mark : ℕ) → All (λ b. b < 2 ^ 8) image → IsOurs image x → (seen_of x).verdict ≡ shown.Complete mark → (seen_of x).file ≡ image
-complete_is_image image x mark bytes ours is = (recovered_is image x bytes ours).shown mark is
+complete_is_image image x mark bytes ours is = (recovered_is image cut x bytes ours.set).shown mark is
 
-fragments_numbered : (image : List ℕ) (heard : List Fragment) → AllByRecursion (IsFragmentOf image 64) heard → AreNumbered heard
-fragments_numbered image [] all = tt
-fragments_numbered image (f ∷ heard) all = (all.0.first, fragments_numbered image heard all.1)
+fragments_numbered : (image : List ℕ) (size : ℕ) (heard : List Fragment) → AllByRecursion (IsFragmentOf image size) heard → AreNumbered heard
+fragments_numbered image size [] all = tt
+fragments_numbered image size (f ∷ heard) all = (all.0.first, fragments_numbered image size heard all.1)
 
-pub something_missing : (image : List ℕ) (x : Session) → All (λ b. b < 2 ^ 8) image → IsOurs image x → (seen_of x).verdict ≡ shown.Receiving → 1 ≤ (seen_of x).missing
+pub something_missing : (image : List ℕ) (its : Cut) (x : Session) → All (λ b. b < 2 ^ 8) image → IsSetFor image its x → (seen_of x).verdict ≡ shown.Receiving → 1 ≤ (seen_of x).missing
 unfolding seen_of shape_of
-something_missing image x bytes ours is =
+something_missing image its x bytes set is =
     rw (missing_pieces.receiving x is)
-    (some_left (shape_of x) x.heard (fragments_numbered image x.heard ours.set.heard) (shape_is image x bytes ours).0.makes.some
+    (some_left (shape_of x) x.heard (fragments_numbered image its.size x.heard set.heard) (shape_for image its x bytes set).0.makes.some
     (shown_receiving (verdict (shape_of x) x.heard) is))
 
 pub nothing_missing : (x : Session) (mark : ℕ) → (seen_of x).verdict ≡ shown.Complete mark → (seen_of x).missing ≡ 0
@@ -111,13 +108,13 @@ pub rows_suffice : (image : List ℕ) (x : Session) (newer older : List Fragment
     → AllByRecursion (IsUncoded (shape_of x)) older → (shape_of x).nb_frag ≤ direct (shape_of x) older + 64 → (seen_of x).verdict ≢ shown.NoRows mark
 unfolding shape_of
 rows_suffice image x newer older mark bytes ours here uncoded enough is =
-    let at = ((decided_at_first x (shape_is image x bytes ours).0.makes).no_rows mark).0 is in
-    let low = no_excess (shape_of x) x.heard newer older at.0 (at.1 ∷ at.2) (fragments_numbered image x.heard ours.set.heard) here uncoded
+    let at = ((decided_at_first x (shape_for image cut x bytes ours.set).0.makes).no_rows mark).0 is in
+    let low = no_excess (shape_of x) x.heard newer older at.0 (at.1 ∷ at.2) (fragments_numbered image 64 x.heard ours.set.heard) here uncoded
     (omega (arith, enough, ours.rows)) at.3.parted in
     omega (arith, at.3.now.over, low)
 
-pub no_conflict : (image : List ℕ) (x : Session) (mark : ℕ) → All (λ b. b < 2 ^ 8) image → IsOurs image x → (seen_of x).verdict ≢ shown.Conflict mark
-no_conflict image x mark bytes ours = (recovered_is image x bytes ours).agrees mark
+pub no_conflict : (image : List ℕ) (its : Cut) (x : Session) (mark : ℕ) → All (λ b. b < 2 ^ 8) image → IsSetFor image its x → (seen_of x).verdict ≢ shown.Conflict mark
+no_conflict image its x mark bytes set = (recovered_is image its x bytes set).agrees mark
 
 -- ---- an uncoded fragment of the image
 
@@ -135,7 +132,7 @@ piece_of image n bytes low high =
 pub uncoded_is : (image : List ℕ) (x : Session) (f : Fragment) → All (λ b. b < 2 ^ 8) image → IsOurs image x → IsFragmentOf image 64 f
     → f.number ≤ nb_frag_of (length image) 64 → IsUncoded (shape_of x) f
 uncoded_is image x f bytes ours fragment high =
-    let h = shape_is image x bytes ours in
+    let h = shape_for image cut x bytes ours.set in
     let count : (shape_of x).nb_frag ≡ nb_frag_of (length image) 64 = h.0.count ∙ ap (nb_frag_of (length image)) h.1 in
     record {
       first = fragment.first;

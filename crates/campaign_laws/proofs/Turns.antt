@@ -187,7 +187,7 @@ status_turn image j d s x plain session is decided after =
 waiting_turn : (image : List ℕ) (j : ℕ) (d : DeviceState) (s : Stage) (x : Session) → IsMade image → IsPlain d → d.sessions.first ≡ Some x → IsOurs image x
     → (seen_of x).verdict ≡ shown.Receiving → s ≡ At request.Status → TakesTurn image (Late image (j + 1)) d s
 waiting_turn image j d s x made plain session ours receives is =
-    let some = something_missing image x made.bytes ours receives in
+    let some = something_missing image cut x made.bytes ours.set receives in
     let more : 1 ≤ min (seen_of x).missing 255 = omega (arith, some) in
     status_turn image j d s x plain session is (inl receives) (λ plan planned. (
       x,

@@ -1,3 +1,12 @@
 pub mod Bringing
 pub mod Requests
 pub mod Moving
+pub mod Backing
+pub mod Facts
+pub mod Tables
+pub mod Commands
+pub mod Delivering
+pub mod Progress
+pub mod Lines
+pub mod Framing
+pub mod Exchanging

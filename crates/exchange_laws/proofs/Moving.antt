@@ -11,7 +11,7 @@ use Rattle.campaign_server.specs.declared.stage.Request.TheVariants.{Version, Gr
 use Rattle.campaign_server.specs.declared.stage.Stage.{Stage}
 use Rattle.campaign_server.specs.declared.stage.Stage.TheVariants.{At}
 use Rattle.campaign_server.specs.Asking.{request_at, request_of, by_unicast, cast_of, group_request, window_request}
-use Rattle.campaign_server.specs.Plan.{own_id, bad_field}
+use Rattle.campaign_server.specs.Plan.{own_id}
 use Rattle.campaign_server.specs.Server.{ServerState, DownlinkCommand, ledger}
 use Rattle.campaign_server.specs.ServerInside.{GroupFits}
 use Rattle.campaign_server.proofs.Plans.{plan_of_fine, asked_of}
@@ -66,50 +66,59 @@ few_ids None fits = omega arith
 few_ids (Some group) fits = omega (arith, fits.1)
 
 group_by : (server : ServerState) (dev came t word mark : ℕ) (device : DeviceState) (asked : Command) (planned : PlanDevice) (group : Option PlanGroup)
-    → server.plan.group ≡ group → GroupFits group → own_id group < length device.groups → cast_of (λ g. group_request planned g) group ≡ Some asked
+    → server.plan.group ≡ group → own_id group ≤ 3 → own_id group < length device.groups → cast_of (λ g. group_request planned g) group ≡ Some asked
     → IsReached device t → IsAsked server dev asked → ledger server dev ≡ Some (At Group)
     → MovesTo server dev came (after_request t word mark asked device) (At Fragments)
-group_by server dev came t word mark device asked planned None is fits there request reached asks stands = absurd cc
-group_by server dev came t word mark device asked planned (Some group) is fits there request reached asks stands =
+group_by server dev came t word mark device asked planned None is few there request reached asks stands = absurd cc
+group_by server dev came t word mark device asked planned (Some group) is few there request reached asks stands =
     led server dev came t word mark device _ asked (At Group) (At Fragments) (some_is _ asked request) reached asks stands
-    (group_leads server.plan server.image t word mark device planned group reached.empty is (omega (arith, fits.1)) there)
+    (group_leads server.plan server.image t word mark device planned group reached.empty is few there)
 
 leads : (server : ServerState) (dev came t word mark : ℕ) (device : DeviceState) (request : Request) (asked : Command)
-    → bad_field (length server.image) server.plan ≡ None → firmware_of server.image < 2 ^ 32 → HasWidths device
+    → own_id server.plan.group ≤ 3 → server.plan.index ≤ 3 → firmware_of server.image < 2 ^ 32 → HasWidths device
     → IsReached device t → IsAsked server dev asked → ledger server dev ≡ Some (At request) → Suits request server device
     → IsRequest server (At request) asked
     → MovesTo server dev came (after_request t word mark asked device) (stage_after_request server.plan request)
 unfolding request_at
-leads server dev came t word mark device Version asked fine small wide reached asks stands suits is =
+leads server dev came t word mark device Version asked few indexed small wide reached asks stands suits is =
     led server dev came t word mark device _ asked (At Version) _ (some_is _ asked is.is) reached asks stands
     (version_leads server.plan server.image t word mark device reached.empty wide.version wide.hw suits)
-leads server dev came t word mark device Group asked fine small wide reached asks stands suits is =
-    group_by server dev came t word mark device asked is.planned server.plan.group refl (plan_of_fine _ server.plan fine).group_fits suits is.is reached asks stands
-leads server dev came t word mark device Fragments asked fine small wide reached asks stands suits is =
+leads server dev came t word mark device Group asked few indexed small wide reached asks stands suits is =
+    group_by server dev came t word mark device asked is.planned server.plan.group refl few suits is.is reached asks stands
+leads server dev came t word mark device Fragments asked few indexed small wide reached asks stands suits is =
     led server dev came t word mark device _ asked (At Fragments) _ (some_is _ asked is.is) reached asks stands
-    (setup_leads server.plan server.image t word mark device reached.empty (plan_of_fine _ server.plan fine).indexed suits)
-leads server dev came t word mark device Window asked fine small wide reached asks stands suits is =
+    (setup_leads server.plan server.image t word mark device reached.empty indexed suits)
+leads server dev came t word mark device Window asked few indexed small wide reached asks stands suits is =
     let request : cast_of (λ w. window_request (own_id server.plan.group) w) (Some suits.window) ≡ Some asked = rw suits.planned at is.is in
     led server dev came t word mark device _ asked (At Window) (At Status) (some_is _ asked request) reached asks stands
     (window_leads server.plan server.image t word mark device suits.window reached.empty
-    (few_ids server.plan.group (plan_of_fine _ server.plan fine).group_fits) suits.planned suits.possible)
-leads server dev came t word mark device Status asked fine small wide reached asks stands suits is =
+    few suits.planned suits.possible)
+leads server dev came t word mark device Status asked few indexed small wide reached asks stands suits is =
     led server dev came t word mark device _ asked (At Status) (At Image) (some_is _ asked is.is) reached asks stands
-    (status_leads server.plan server.image t word mark device reached.empty (plan_of_fine _ server.plan fine).indexed suits suits.nothing)
-leads server dev came t word mark device Image asked fine small wide reached asks stands suits is =
+    (status_leads server.plan server.image t word mark device reached.empty indexed suits suits.nothing)
+leads server dev came t word mark device Image asked few indexed small wide reached asks stands suits is =
     led server dev came t word mark device _ asked (At Image) (At Reboot) (some_is _ asked is.is) reached asks stands
     (image_leads server.plan server.image t word mark device reached.empty small suits)
-leads server dev came t word mark device Reboot asked fine small wide reached asks stands suits is =
+leads server dev came t word mark device Reboot asked few indexed small wide reached asks stands suits is =
     led server dev came t word mark device _ asked (At Reboot) (At Check) (some_is _ asked is.is) reached asks stands
     (reboot_leads server.plan server.image t word mark device reached.empty)
-leads server dev came t word mark device Check asked fine small wide reached asks stands suits is =
+leads server dev came t word mark device Check asked few indexed small wide reached asks stands suits is =
     led server dev came t word mark device _ asked (At Check) _ (some_is _ asked is.is) reached asks stands
     (check_leads server.plan server.image t word mark device reached.empty wide.version wide.hw suits)
+
+-- what the server asks is the request of the stage
+pub led_on : (server : ServerState) (dev came t word mark : ℕ) (device : DeviceState) (request : Request) (asked : Command)
+    → own_id server.plan.group ≤ 3 → server.plan.index ≤ 3 → firmware_of server.image < 2 ^ 32 → HasWidths device
+    → IsReached device t → IsAsked server dev asked → ledger server dev ≡ Some (At request) → Suits request server device
+    → MovesTo server dev came (after_request t word mark asked device) (stage_after_request server.plan request)
+led_on server dev came t word mark device request asked few indexed small wide reached asks stands suits =
+    leads server dev came t word mark device request asked few indexed small wide reached asks stands suits
+    (request_by server dev (At request) asked (numbered server.plan.devices dev) refl stands asks.asks)
 
 pub moving : ExchangesMove
 moving = record {
   exact = exchanged;
   leads = λ server dev came t word mark device request asked fine small wide reached asks stands suits.
-      leads server dev came t word mark device request asked fine small wide reached asks stands suits
-      (request_by server dev (At request) asked (numbered server.plan.devices dev) refl stands asks.asks);
+      (let plan = plan_of_fine (length server.image) server.plan fine in
+      led_on server dev came t word mark device request asked (few_ids server.plan.group plan.group_fits) plan.indexed small wide reached asks stands suits);
 }

@@ -1,3 +1,4 @@
 pub mod Exchange
 pub mod Suits
 pub mod Moving
+pub mod Updating

@@ -1,6 +1,7 @@
 //! Laws about the definitions, each the contract of a function with an empty body.
 
 ghost use Rattle.exchange_laws.specs.Moving.{ExchangesMove};
+ghost use Rattle.exchange_laws.specs.Updating.{ExchangesMoveOn, AnswersUpdate};
 
 /// Where a server asks a device that it reaches, and the uplink that the device makes comes to the server, the stage after it is
 /// what the device's answer makes of the stage before. For each of the eight requests a device that suits it is led to the
@@ -8,4 +9,19 @@ ghost use Rattle.exchange_laws.specs.Moving.{ExchangesMove};
 #[tactic(auto, using(crate::proofs::Moving::moving))]
 pub fn an_exchange_moves_on()
     ensures { ExchangesMove }
+{}
+
+/// For any image and any accepted honest script: where a device that suits is asked, hears that request later and its uplink comes
+/// to the server later still, it is at a later stage then, whatever other lines lie between; and at the one that follows, where
+/// the uplink found the stage that was asked at.
+#[tactic(auto, using(crate::proofs::Exchanging::exchanges_move_on))]
+pub fn an_exchange_moves_a_campaign_on()
+    ensures { ExchangesMoveOn }
+{}
+
+/// For any image and any accepted honest script: a device that suits, and that answers eight requests so, six where the plan has
+/// no group, is updated and runs the image. Any other lines may lie before and between, and it must have its file whole where its
+/// status is asked for.
+pub fn a_device_that_answers_is_updated()
+    ensures { AnswersUpdate }
 {}

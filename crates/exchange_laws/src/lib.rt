@@ -1,9 +1,11 @@
-//! One request of a server and its answer, between the records of a server and of one of its devices (TS003 to TS006, 1.0.0; the
-//! stages are this project's profile): where the request comes to the device and its uplink to the server, the stage after it is
-//! what the device's answer makes of it, and a device that suits is led on. There is no code here: the laws are about what the
-//! calls of `campaign_server` and `device_core` make of their records. Which payloads arrive is left to the world above.
+//! Requests of a server and their answers (TS003 to TS006, 1.0.0; the stages are this project's profile). Between the records of a
+//! server and of one of its devices: where a request comes to the device and its uplink to the server, the stage after it is what
+//! the device's answer makes of it, and a device that suits is led on. And in a campaign: whatever other lines lie between, a
+//! device that suits and answers as many requests as there are stages is updated. There is no code here.
 #![tactic(auto)]
 
 mod laws;
 
-pub use laws::an_exchange_moves_on;
+pub use laws::{
+    a_device_that_answers_is_updated, an_exchange_moves_a_campaign_on, an_exchange_moves_on,
+};
