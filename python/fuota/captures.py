@@ -143,7 +143,7 @@ class Log:
             self.left_out["empty line"] += 1
             return
         try:
-            members = json.loads(line)
+            members = json.loads(line.decode("utf-8-sig"))
         except (ValueError, RecursionError) as why:
             raise Wrong(f"not JSON: {why}") from None
         if not isinstance(members, dict):

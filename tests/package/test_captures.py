@@ -1,13 +1,22 @@
 """Captures, made by fuota-capture of messages in the shape in which network servers publish them, and read by the program.
 
 The captures, and the counts of what was taken and left out, are compared with lines that stand here, and what `fuota capture`
-says of them with texts that stand here. Messages and words that make no capture must be refused.
+says of them with texts that stand here. Messages and words that make no capture must be refused. Of each log that is tried here
+the page of tools/web_page makes the same, where node is installed: its module web/page/logs.mjs is asked beside the command.
 """
 import base64
+import copy
 import json
+import math
+import random
+import re
+import shutil
 import subprocess
 
 import pytest
+
+import common
+from fuota import captures
 
 SETUP = "0200010001000000000000"
 PIECE = "0801005a"
@@ -253,16 +262,48 @@ def wrong_members():
     yield {"items": [item(201, ""), {**item(0, ""), "data": 7}]}, "the payload is not base64: 7"
 
 
+@pytest.fixture(scope="session")
+def page(tmp_path_factory):
+    """Asks the page's module: its answer. None where node is not installed."""
+    if not shutil.which("node"):
+        yield None
+        return
+    tables = tmp_path_factory.mktemp("page") / "tables"
+    tables.write_text(common.script_of(common.TOP / "tools" / "web_page").tables())
+    words = ["node", common.TOP / "tests" / "web" / "logs.mjs", tables]
+    with subprocess.Popen(words, stdin=subprocess.PIPE, stdout=subprocess.PIPE, text=True) as node:
+        def page(log, device, rows):
+            print(json.dumps({"log": base64.b64encode(log).decode(), "device": device, "rows": rows}), file=node.stdin, flush=True)
+            return json.loads(node.stdout.readline())
+        yield page
+        node.stdin.close()
+
+
 @pytest.fixture
-def make(call, tmp_path):
-    """Runs the command on a log: status, lines of the capture or None, message."""
+def make(call, page, tmp_path, monkeypatch):
+    """Runs the command on a log: status, lines of the capture or None, message. The page makes the same of it."""
+    asked, run = [], captures.run
+    monkeypatch.setattr(captures, "run", lambda words: asked.append(words) or run(words))
+
     def make(lines, *words):
-        (tmp_path / "log").write_bytes(b"".join(line + b"\n" for line in lines))
+        asked.clear()
+        log = b"".join(line + b"\n" for line in lines)
+        (tmp_path / "log").write_bytes(log)
         (tmp_path / "capture").unlink(missing_ok=True)
         done = call("fuota-capture", *(words or ("0", "log", "capture")))
         made = tmp_path / "capture"
-        return done.status, made.read_text().split("\n") if made.is_file() else None, done.message
+        text = made.read_text() if made.is_file() else None
+        if page and asked and done.status != 1:
+            told = page(log, asked[0].device, asked[0].rows)
+            assert told.get("text") == text
+            assert without_reason(told["fault"] or told["counts"]) == without_reason(done.message)
+        return done.status, text and text.split("\n"), done.message
     return make
+
+
+def without_reason(message):
+    """What is said, without the command and the file, and without the words of one reader of JSON or the other."""
+    return re.sub("(?<=not JSON: ).*", "", re.sub("^fuota-capture: (log: )?", "", message)).strip()
 
 
 @pytest.fixture
@@ -427,3 +468,48 @@ def test_files(make, words, place):
 @pytest.mark.parametrize("word", ["--device EUI", "multicast queue item", "None was tried against a live server"])
 def test_help(call, word):
     assert word in call("fuota-capture", "--help").said
+
+
+def test_page_was_asked(page):
+    if not page:
+        pytest.skip("the page's module (node is not installed)")
+    assert page(FINE[0], None, 3)["text"] == f"capture 1 3\n{entry('up', '00')}\n"
+
+
+ODD = [None, True, False, 0, 7, 255, 256, -1, 201.0, 1.5, 1e-3, 12345678901234567890, math.nan, -math.inf, "", "AA==", "AA=", "AAAA=", "A",
+       "\u00e9'", "'\"\\", "\0\x7f\n\t\u2028\ud800", 20 * "\U0001f600'", EUI, OTHER, EUI_IN_BASE64, [], {}, [None], [{}],
+       {"a": [1, "b", None, False]}]
+GROUPED = [multicast(201, "00"), multicast(201, "00", "multicastGroupID")]
+
+
+def objects_in(value):
+    """The objects of a message, itself first."""
+    if isinstance(value, dict):
+        yield value
+    for inner in value.values() if isinstance(value, dict) else value if isinstance(value, list) else ():
+        yield from objects_in(inner)
+
+
+def drawn_message(rng, messages):
+    """A message of these, with members changed, taken out, or brought from another one."""
+    message = copy.deepcopy(rng.choice(messages))
+    for _turn in range(rng.randrange(4)):
+        place = rng.choice([*objects_in(message)])
+        name = rng.choice([*place, "data"])
+        place.update(copy.deepcopy(rng.choice([{name: rng.choice(ODD)}, rng.choice(messages)])))
+        if rng.random() < 0.3:
+            place.pop(name, None)
+    return message
+
+
+@pytest.mark.parametrize("seed", range(20))
+def test_drawn(make, seed):
+    """The command and the page, on logs with members at odd places and of odd kinds."""
+    rng = random.Random(seed)
+    messages = [*(case[1] for case in shapes()), *(message for message, _said in kinds()), *GROUPED]
+    answers = set()
+    for _turn in range(60):
+        lines = lines_of(drawn_message(rng, messages) for _line in range(rng.randrange(1, 4)))
+        words = rng.choice([[], ["--device", EUI], ["--device", OTHER]])
+        answers.add(make(lines, *words, str(rng.randrange(257)), "log", "capture")[0])
+    assert answers == {0, 2}

@@ -1,11 +1,64 @@
-// A capture: its sessions, which pieces came and which were made good, as a picture that fills line by line, and the files.
+// A capture, or a network server's log of which one is made: its sessions, which pieces came and which were made good, as a picture
+// that fills line by line, and the files.
 import { across, byId, copier, element, picture, saver, shown, svg, text, words } from "./draw.mjs";
+import { captureOfLog } from "./logs.mjs";
 import { long, run } from "./runner.mjs";
 import { captureOf, CAUSES, heardBy, refusalOf } from "./texts.mjs";
 
-const LOG = "This is no capture. Of a network server's log tools/capture_from_lns makes one: tools/capture_from_lns LOG CAPTURE. This page reads captures alone.";
+const HEADER = "A capture begins with “capture 1” and the rows of the device, a network server's log with an object in JSON.";
+const OBJECTS = "Each line of a log has to be one object in JSON, as the network server publishes it.";
+const SEVERAL = "The log has messages of several devices: choose one above.";
 
-export async function read(name, bytes) {
+let tables = null;
+let log = null;
+
+const encoder = new TextEncoder();
+
+// (after a mark of the order of bytes, which the decoder takes out)
+const isLog = (bytes) => /^\s*[[{]/.test(words(bytes.subarray(0, 1000)));
+
+function read(name, bytes) {
+  log = isLog(bytes) ? { name, bytes } : null;
+  byId("log").hidden = log === null;
+  return log ? readLog("") : readCapture(name, bytes);
+}
+
+async function readLog(device) {
+  const { name, bytes } = log;
+  const told = byId("capture-told");
+  const rows = byId("log-rows");
+  told.replaceChildren();
+  if (!rows.checkValidity() || rows.value === "") {
+    told.append(element("p", { class: "fault", role: "alert" }, `“rows” is outside its range: ${rows.min} to ${rows.max}`));
+    return;
+  }
+  const made = await long(`reading ${name}`, (tell) => captureOfLog(tables, bytes, device || null, Number(rows.value), async (share, lines) => {
+    tell(share, `reading ${name}: ${lines} lines`);
+    await new Promise((done) => setTimeout(done));
+  }));
+  if (made === null) return;
+  const choices = [["", "the only one in the log"], ...made.devices.map((eui) => [eui, eui])];
+  byId("log-device").replaceChildren(...choices.map(([value, label]) => element("option", { value, ...(value === device && { selected: "" }) }, label)));
+  if (made.fault) {
+    byId("status").textContent = `${name}: refused`;
+    told.append(refusedLog(made));
+    return;
+  }
+  const capture = encoder.encode(made.text);
+  const saves = element("p", {}, copier("copy the capture", () => made.text), " ", saver("save the capture", "capture", capture));
+  await readCapture(`the capture of ${name}`, capture, element("p", {}, `From the log ${made.counts}.`), saves);
+}
+
+function refusedLog({ fault }) {
+  const part = element("div", { class: "fault", role: "alert" }, element("p", {}, `The log is refused, ${fault}.`));
+  const number = /^line (\d+): /.exec(fault)?.[1];
+  if (number) part.append(element("pre", {}, words(log.bytes).split(/\r\n|\r|\n/)[number - 1].slice(0, 300)));
+  if (/: not (JSON|a JSON object)/.test(fault)) part.append(element("p", {}, OBJECTS));
+  if (/: a message of \w+, and not of /.test(fault)) part.append(element("p", {}, SEVERAL));
+  return part;
+}
+
+async function readCapture(name, bytes, ...before) {
   const told = byId("capture-told");
   told.replaceChildren();
   const ran = await long(`reading ${name}`, () => run(["capture", "file"], { file: bytes }));
@@ -17,7 +70,7 @@ export async function read(name, bytes) {
     return;
   }
   const { entries, counts, sessions } = captureOf(said);
-  told.append(element("p", {}, `${entries.length} payloads; ${counts}.`));
+  told.append(...before, element("p", {}, `${entries.length} payloads; ${counts}.`));
   if (sessions.length === 0) told.append(element("p", {}, "No session was set up, so there is no file."));
   for (const session of sessions) told.append(sessionPart(session, entries));
   told.append(
@@ -33,7 +86,7 @@ function refused(said, bytes) {
   part.append(element("p", {}, `Line ${refusal.line} is refused: ${CAUSES[refusal.why] ?? refusal.why}.`));
   const line = words(bytes).split("\n")[refusal.line - 1];
   if (line !== undefined) part.append(element("pre", {}, line.slice(0, 300)));
-  if (refusal.line === 1 && line?.trimStart().startsWith("{")) part.append(element("p", {}, LOG));
+  if (refusal.line === 1) part.append(element("p", {}, HEADER));
   return part;
 }
 
@@ -118,7 +171,8 @@ function svgSquare(name) {
   return svg("svg", { viewBox: "0 0 12 12", width: 12, height: 12, "aria-hidden": "true" }, svg("path", { class: name, d: "M1 1h10v10h-10z" }));
 }
 
-export function begin(example) {
+export function begin(example, known) {
+  tables = known;
   const drop = byId("drop");
   const take = async (file) => file && read(file.name, new Uint8Array(await file.arrayBuffer()));
   for (const name of ["dragover", "dragenter"]) {
@@ -134,6 +188,8 @@ export function begin(example) {
     take(event.dataTransfer.files[0]);
   });
   byId("capture-file").addEventListener("change", (event) => take(event.target.files[0]));
+  byId("capture-text").addEventListener("input", ({ target }) => target.value && read("what was pasted", encoder.encode(target.value)));
+  for (const id of ["log-device", "log-rows"]) byId(id).addEventListener("change", () => readLog(byId("log-device").value));
   byId("capture-example").addEventListener("click", () => read("the example", example));
 }
 

@@ -32,7 +32,7 @@ addEventListener("unhandledrejection", failed);
 addEventListener("error", failed);
 addEventListener("hashchange", route);
 byId("stop").addEventListener("click", stopNow);
-capture.begin(data("example-capture"));
+capture.begin(data("example-capture"), JSON.parse(byId("tables").textContent));
 payload.begin();
 campaign.begin({ image: data("example-image"), script: new TextDecoder().decode(data("example-script")) });
 plan.begin();

@@ -9,13 +9,11 @@ from urllib.parse import urlsplit
 
 from ..errors import Wrong, plain
 from ..fields import file, member, url, word
-from .server import Lost, Members, Payload, Publish, Refusing, Server, Uplink, base64_of, member_of, reaches, time_of, uplink_of
+from .server import (Lost, Members, Payload, Publish, Refusing, Server, Uplink, base64_of, has_all, member_of, reaches, time_of,
+                     uplink_of)
 
 # Seconds that the REST API may take.
 TIMEOUT = 30
-# What an event of an uplink has beside the payload, and no downlink has.
-UPLINK_MARKS = ("deviceInfo", "rxInfo", "txInfo", "adr", "deviceName", "applicationName")
-GROUPS = ("multicastGroupId", "multicastGroupID")
 
 
 @dataclass(frozen=True, kw_only=True)
@@ -25,6 +23,11 @@ class ChirpStack(Server):
     name = "chirpstack"
     holders = {"result": (list,), "items": (list,), "queueItem": (dict,), "deviceQueueItem": (dict,), "deviceQueueItems": (list,),
                "multicastQueueItem": (dict,), "multicastQueueItems": (list,)}
+    euis_at = ("devEui", "devEUI", "deviceInfo.devEui")
+    groups = ("multicastGroupId", "multicastGroupID")
+    kinds = {"acknowledged": "ack", "margin": "status", "batteryLevel": "status", "devAddr fCnt": "without port", "devAddr": "join"}
+    # What an event of an uplink has beside the payload, and no downlink has.
+    uplink_marks = ("deviceInfo", "rxInfo", "txInfo", "adr", "deviceName", "applicationName", "applicationID fCnt")
 
     application: str = member(word)
     http: str | None = member(url, None, for_group=True)
@@ -36,33 +39,13 @@ class ChirpStack(Server):
         if "fPort" not in members and "data" not in members:
             return None
         port, text = members.get("fPort"), members.get("data")
-        marked = any(name in members for name in UPLINK_MARKS) or ("applicationID" in members and "fCnt" in members)
-        if marked and not any(members.get(name) for name in GROUPS):
+        if any(has_all(members, mark) for mark in cls.uplink_marks) and not any(members.get(name) for name in cls.groups):
             return Payload("up", port, text)
         if member_of(members, "isEncrypted", bool):
             return Payload("down", port, text, "encrypted")
         # (the server is to make a payload of such an object)
         is_object = member_of(members, "object", dict) or member_of(members, "jsonObject", str) or "data" not in members
         return Payload("down", port, text, "without payload" if is_object and not text else None)
-
-    @classmethod
-    def euis(cls, members: Members) -> list[str | None]:
-        named = [member_of(members, name, str) for name in ("devEui", "devEUI")]
-        return [*named, member_of(member_of(members, "deviceInfo", dict) or {}, "devEui", str)]
-
-    @classmethod
-    def kind_of(cls, members: Members) -> str | None:
-        if "acknowledged" in members:
-            return "ack"
-        if any(name in members for name in ("margin", "batteryLevel")):
-            return "status"
-        if "devAddr" in members:
-            return "without port" if "fCnt" in members else "join"
-        return None
-
-    @classmethod
-    def names_group(cls, members: Members) -> bool:
-        return any([member_of(members, name, str) for name in GROUPS])
 
     # ---- A campaign
 

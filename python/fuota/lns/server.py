@@ -18,6 +18,7 @@ Members = dict[str, Any]
 Publish = Callable[[str, Members], None]
 EUI = re.compile("[0-9A-Fa-f]{2}(?:[-:. ]?[0-9A-Fa-f]{2}){7}")
 EUI_LENGTH = 8
+BASE64 = re.compile("(?:[A-Za-z0-9+/]{4})*(?:[A-Za-z0-9+/]{2}==|[A-Za-z0-9+/]{3}=)?")
 A_DAY = 86_400_000
 # What a type of JSON is called.
 TYPES = {dict: "an object", list: "a list", str: "a text", bool: "a truth value"}
@@ -58,10 +59,9 @@ class Payload:
 
     def octets(self) -> bytes:
         """The payload, which is empty where there is none."""
-        try:
-            payload = base64.b64decode("" if self.text is None else self.text, validate=True)
-        except (TypeError, ValueError):
-            raise Wrong(f"the payload is not base64: {self.text!r:.40}") from None
+        payload = octets_of("" if self.text is None else self.text)
+        if payload is None:
+            raise Wrong(f"the payload is not base64: {self.text!r:.40}")
         if len(payload) > MAX_PAYLOAD:
             raise Wrong(f"a payload of {len(payload)} bytes, and not of at most {MAX_PAYLOAD}")
         return payload
@@ -74,8 +74,13 @@ class Server(abc.ABC):
     # What `kind` calls it in a plan, and whether each device of a plan needs an id.
     name: ClassVar[str]
     needs_ids: ClassVar[bool] = False
-    # The members that hold other messages, each with its types.
+    # The members that hold other messages, each with its types; those that have an EUI, with what they are in; and those that
+    # name a multicast group. The page of tools/web_page reads logs by the same tables.
     holders: ClassVar[dict[str, tuple[type, ...]]]
+    euis_at: ClassVar[tuple[str, ...]]
+    groups: ClassVar[tuple[str, ...]] = ()
+    # The kinds of messages that carry nothing, by the members that they have; the first counts.
+    kinds: ClassVar[dict[str, str]]
 
     host: str = member(word)
     port: int = member(whole(1, 65_535), 1883)
@@ -94,19 +99,19 @@ class Server(abc.ABC):
         """What a message carries, which the member `holder` of another may hold; None where it is no payload of this server."""
 
     @classmethod
-    @abc.abstractmethod
     def euis(cls, members: Members) -> list[str | None]:
         """The EUIs by which a message names its device."""
+        return [text_at(members, place) for place in cls.euis_at]
 
     @classmethod
-    @abc.abstractmethod
     def kind_of(cls, members: Members) -> str | None:
         """The kind of a message that carries nothing, where it is one of this server's."""
+        return next((kind for names, kind in cls.kinds.items() if has_all(members, names)), None)
 
     @classmethod
     def names_group(cls, members: Members) -> bool:
         """Whether a message names a multicast group."""
-        return False
+        return any([member_of(members, name, str) for name in cls.groups])
 
     # ---- A campaign over MQTT
 
@@ -147,15 +152,26 @@ def member_of(members: Members, name: str, *kinds: type) -> Any:
     return value
 
 
+def text_at(members: Members, place: str) -> str | None:
+    """A text at a place, as `deviceInfo.devEui`."""
+    *outer, name = place.split(".")
+    for step in outer:
+        members = member_of(members, step, dict) or {}
+    text: str | None = member_of(members, name, str)
+    return text
+
+
+def has_all(members: Members, names: str) -> bool:
+    """Whether members of all these names are there."""
+    return all(name in members for name in names.split())
+
+
 def eui_of(text: Any) -> str:
     """An EUI as 16 small hex digits. It is written as hex, in either case and with separators or none, or in base64."""
     if isinstance(text, str) and EUI.fullmatch(text):
         return re.sub("[-:. ]", "", text).lower()
-    try:
-        octets = base64.b64decode(text, validate=True)
-    except (TypeError, ValueError):
-        octets = b""
-    if len(octets) != EUI_LENGTH:
+    octets = octets_of(text)
+    if octets is None or len(octets) != EUI_LENGTH:
         raise Wrong(f"invalid EUI: {text!r:.40}")
     return octets.hex()
 
@@ -172,6 +188,11 @@ def time_of(text: Any, now: int) -> int:
     except (TypeError, ValueError, OverflowError):
         return now
     return t if now - A_DAY <= t <= now else now
+
+
+def octets_of(text: Any) -> bytes | None:
+    """The octets of a text in base64; None where it is none."""
+    return base64.b64decode(text) if isinstance(text, str) and BASE64.fullmatch(text) else None
 
 
 def base64_of(payload: bytes) -> str:

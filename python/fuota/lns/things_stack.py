@@ -14,6 +14,8 @@ class ThingsStack(Server):
     name = "things-stack"
     needs_ids = True
     holders = {"result": (dict,), "downlinks": (list,)}
+    euis_at = ("end_device_ids.dev_eui",)
+    kinds = {"join_accept": "join", "downlink_ack": "ack", "downlink_nack": "ack"}
 
     application: str = member(word)
     tenant: str = member(word)
@@ -32,16 +34,6 @@ class ThingsStack(Server):
             if inner is not None:
                 return Payload(way, inner.get("f_port"), inner.get("frm_payload"))
         return None
-
-    @classmethod
-    def euis(cls, members: Members) -> list[str | None]:
-        return [member_of(member_of(members, "end_device_ids", dict) or {}, "dev_eui", str)]
-
-    @classmethod
-    def kind_of(cls, members: Members) -> str | None:
-        if "join_accept" in members:
-            return "join"
-        return "ack" if any(name in members for name in ("downlink_ack", "downlink_nack")) else None
 
     # ---- A campaign
 
