@@ -11,3 +11,4 @@ pub mod Lines
 pub mod Framing
 pub mod Exchanging
 pub mod OnceAtServer
+pub mod WorkedExchange

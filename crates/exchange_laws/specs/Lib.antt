@@ -3,3 +3,4 @@ pub mod Suits
 pub mod Moving
 pub mod Updating
 pub mod OnceAtServer
+pub mod WorkedExchange

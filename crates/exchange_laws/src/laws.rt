@@ -2,6 +2,7 @@
 
 ghost use Rattle.exchange_laws.specs.Moving.{ExchangesMove};
 ghost use Rattle.exchange_laws.specs.OnceAtServer.{MovesOnceAtServer};
+ghost use Rattle.exchange_laws.specs.WorkedExchange.{WorkedExchange};
 ghost use Rattle.exchange_laws.specs.Updating.{ExchangesMoveOn, AnswersUpdate};
 
 /// Where a server asks a device that it reaches, and the uplink that the device makes comes to the server, the stage after it is
@@ -32,4 +33,9 @@ pub fn a_device_that_answers_is_updated()
 /// same words would tell it at the check.
 pub fn an_uplink_moves_a_server_once()
     ensures { MovesOnceAtServer }
+{}
+
+/// An exchange worked out: of two requests and two answers the second ones, with other lines between.
+pub fn worked_exchange()
+    ensures { WorkedExchange }
 {}
