@@ -45,7 +45,7 @@ async function readLog(device) {
     return;
   }
   const capture = encoder.encode(made.text);
-  const saves = element("p", {}, copier("copy the capture", () => made.text), " ", saver("save the capture", "capture", capture));
+  const saves = element("p", {}, copier("copy the capture", () => made.text), " ", saver("save the capture", "made-capture.txt", capture));
   await readCapture(`the capture of ${name}`, capture, element("p", {}, `From the log ${made.counts}.`), saves);
 }
 
