@@ -442,6 +442,21 @@ static int server_outlasts(const uint8_t *image, size_t length) {
     return 0;
 }
 
+static int session_key_answers(void) {
+    static const uint8_t key[16] = {0x00, 0x11, 0x22, 0x33, 0x44, 0x55, 0x66, 0x77,
+                                    0x88, 0x99, 0xAA, 0xBB, 0xCC, 0xDD, 0xEE, 0xFF};
+    static const uint8_t app[16] = {0x10, 0x76, 0xBB, 0xC2, 0xEA, 0x64, 0xF6, 0xE7,
+                                    0x58, 0x05, 0x68, 0x87, 0x98, 0x92, 0x8A, 0xBA};
+    static const uint8_t net[16] = {0x9F, 0x04, 0x20, 0xFE, 0xDD, 0xEA, 0x37, 0xD9,
+                                    0xF0, 0x57, 0xE1, 0xA2, 0x1F, 0x2C, 0xD4, 0xCA};
+    uint8_t found[16];
+    fuota_mc_app_s_key(key, 0x11223344, found);
+    SO(!memcmp(found, app, sizeof app));
+    fuota_mc_net_s_key(key, 0x11223344, found);
+    SO(!memcmp(found, net, sizeof net));
+    return 0;
+}
+
 static int decode_answers(void) {
     static const uint8_t status[5] = {0x01, 0x02, 0x00, 0x01, 0x00};
     static const char line[] = "FragSessionStatusAns";
@@ -472,5 +487,5 @@ int main(int argc, char **argv) {
         return 2;
     return without_objects() || receiver_answers() || receiver_sizes() || device_answers() || device_sizes()
         || device_outlasts() || device_in_flash() || server_answers(image, length) || server_outlasts(image, length)
-        || decode_answers();
+        || session_key_answers() || decode_answers();
 }

@@ -461,6 +461,11 @@ fuota_result fuota_server_fragment_number(fuota_server *handle, uint16_t *number
  * FUOTA_NO_OBJECT. */
 fuota_result fuota_server_frame_count(fuota_server *handle, uint32_t *count);
 
+/* McAppSKey and McNetSKey (LoRaWAN 1.1: McNwkSKey) of a group with this McKey and McAddr: what a network server is given for
+ * the group, in the place of McKey. All keys are in the order of the standard's. */
+void fuota_mc_app_s_key(const uint8_t mc_key[16], uint32_t addr, uint8_t s_key[16]);
+void fuota_mc_net_s_key(const uint8_t mc_key[16], uint32_t addr, uint8_t s_key[16]);
+
 /* The most bytes that a server saves: 44, and six for each of 64 devices. */
 #define FUOTA_SAVED_SERVER 428
 

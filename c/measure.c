@@ -35,6 +35,7 @@ static fuota_uplink up;
 static fuota_stage stage;
 static fuota_view view;
 static fuota_decoded decoded;
+static uint8_t s_key[16];
 static uint8_t text[1000], saved[FUOTA_SAVED_SERVER], kept[FUOTA_SAVED_DEVICE], answer, field;
 static uint32_t version, count;
 static uint16_t number;
@@ -105,6 +106,8 @@ static void server_save(void) { saved_length = fuota_server_save(&server, saved,
 static void server_restore(void) {
     answer = fuota_server_restore(&server, &plan, devices, 1, image, image_length, saved, saved_length, &field);
 }
+static void mc_app_s_key(void) { fuota_mc_app_s_key(plan.key, plan.addr, s_key); }
+static void mc_net_s_key(void) { fuota_mc_net_s_key(plan.key, plan.addr, s_key); }
 static void library_version(void) { version = fuota_version(); }
 static void library_pointer_bits(void) { version = fuota_pointer_bits(); }
 /* A capture whose last line is nested as deep as JSON may be there. */
@@ -146,7 +149,7 @@ static call calls[] = {
     {server_ledger, "server_ledger", 0}, {server_save, "server_save", 0}, {server_restore, "server_restore", 0},
     {server_frame, "server_frame", 0}, {server_last_status, "server_last_status", 0},
     {server_fragment_number, "server_fragment_number", 0}, {server_frame_count, "server_frame_count", 0},
-    {library_version, "version", 0},
+    {mc_app_s_key, "mc_app_s_key", 0}, {mc_net_s_key, "mc_net_s_key", 0}, {library_version, "version", 0},
     {library_pointer_bits, "pointer_bits", 0}, {decode, "decode", 0}, {run, "run", 0}};
 
 enum { CALLS = sizeof calls / sizeof calls[0] };
@@ -237,6 +240,8 @@ static void play(int campaign) {
     made(device_counts);
     made(device_next);
     made(device_raise);
+    made(mc_app_s_key);
+    made(mc_net_s_key);
     made(library_version);
     made(library_pointer_bits);
     made(device_save);

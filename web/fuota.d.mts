@@ -439,6 +439,13 @@ export class Library {
   /** 32. */
   pointerBits(): number;
 
+  /** McAppSKey of a group, by which its payloads are encrypted, from its McKey of 16 bytes and its McAddr (TS005-1.0.0, Multicast
+   * security). */
+  mcAppSKey(mcKey: Uint8Array, addr: number): Uint8Array;
+
+  /** McNetSKey of a group, by which its frames have their MIC. Network servers call it McNwkSKey. */
+  mcNetSKey(mcKey: Uint8Array, addr: number): Uint8Array;
+
   /** The commands of a payload of port 200 to 203, each on a line; `isUp` says that it goes from a device. Throws
    * {@link NoText} where the payload spells none. */
   decode(port: number, isUp: boolean, payload: Uint8Array): string;

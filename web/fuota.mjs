@@ -266,6 +266,7 @@ const VERSION = new Struct("version", { version: U32 });
 const NUMBER = new Struct("number", { number: U16 });
 const COUNT = new Struct("count", { count: U32 });
 const WRONG = new Struct("field", { field: U8 });
+const SESSION_KEY = new Struct("session key", { key: KEY });
 
 const placesOf = ({ size, fields }) => ({
   size, fields: Object.fromEntries(fields.map(({ name, at, kind }) => [name, { at, size: kind.size }])),
@@ -377,6 +378,20 @@ export class Library {
 
   pointerBits() {
     return this.exports.fuota_pointer_bits();
+  }
+
+  mcAppSKey(mcKey, addr) {
+    return this.#sessionKey("mc_app_s_key", mcKey, addr);
+  }
+
+  mcNetSKey(mcKey, addr) {
+    return this.#sessionKey("mc_net_s_key", mcKey, addr);
+  }
+
+  #sessionKey(name, mcKey, addr) {
+    const found = told(SESSION_KEY);
+    callOf(this, name, fieldsOf(SESSION_KEY, { key: mcKey }), U32.of("addr", addr), found);
+    return found.value.key;
   }
 
   decode(port, isUp, payload) {

@@ -67,6 +67,8 @@ uint8_t fuota_server_ledger(fuota_server *, uint8_t, fuota_stage *);
 uint8_t fuota_server_last_status(fuota_server *, uint8_t, fuota_status *);
 uint8_t fuota_server_fragment_number(fuota_server *, uint16_t *);
 uint8_t fuota_server_frame_count(fuota_server *, uint32_t *);
+void fuota_mc_app_s_key(const uint8_t [16], uint32_t, uint8_t [16]);
+void fuota_mc_net_s_key(const uint8_t [16], uint32_t, uint8_t [16]);
 fuota_length fuota_server_save(fuota_server *, uint8_t *, fuota_length);
 uint8_t fuota_server_restore(fuota_server *, const fuota_plan *, const fuota_plan_device *, fuota_length, const uint8_t *, fuota_length, const uint8_t *, fuota_length, uint8_t *);
 uint8_t fuota_decode(uint8_t, bool, const uint8_t *, fuota_length, uint8_t *, fuota_length, fuota_decoded *);
@@ -252,6 +254,13 @@ def fitting(kind: Any, number: Any) -> int:
     return int(number)
 
 
+def key_of(value: bytes) -> Any:
+    """A key, which has 16 bytes."""
+    if len(value) != ctypes.sizeof(KEY):
+        raise OutOfRange(f"a key of {len(value)} bytes, and not of {ctypes.sizeof(KEY)}")
+    return KEY(*value)
+
+
 class Struct(ctypes.Structure):
     """A struct of the header, by the names of its fields; what is not named is 0."""
 
@@ -262,13 +271,7 @@ class Struct(ctypes.Structure):
         if unknown:
             raise TypeError(f"{type(self).__name__} has no field {', '.join(unknown)}")
         for name, value in fields.items():
-            if kinds[name] is KEY:
-                if len(value) != 16:
-                    raise OutOfRange(f"a key of {len(value)} bytes, and not of 16")
-                value = KEY(*value)
-            else:
-                value = fitting(kinds[name], value)
-            setattr(self, name, value)
+            setattr(self, name, key_of(value) if kinds[name] is KEY else fitting(kinds[name], value))
 
 
 class Handle(ctypes.Structure):
@@ -392,9 +395,9 @@ TYPES: dict[str, Any] = {"uint8_t": U8, "uint16_t": U16, "uint32_t": U32, "uint6
 
 def type_of(words: str) -> Any:
     """The type that ctypes takes for one of C."""
-    name = words.replace("const", "").replace("*", "").strip()
+    name = re.sub(r"const|[*]|\[\d+\]", "", words).strip()
     kind = STRUCTS.get(name) or TYPES[name]
-    return ctypes.POINTER(kind) if "*" in words else kind
+    return kind if name == words else ctypes.POINTER(kind)
 
 
 def held(data: bytes) -> tuple[Any, int]:
@@ -441,6 +444,19 @@ class Library:
     def pointer_bits(self) -> int:
         """The bits of a pointer for which it was built."""
         return int(self.call("pointer_bits"))
+
+    def mc_app_s_key(self, mc_key: bytes, addr: int) -> bytes:
+        """McAppSKey of a group, by which its payloads are encrypted, from its McKey and McAddr (TS005-1.0.0, Multicast security)."""
+        return self.session_key("mc_app_s_key", mc_key, addr)
+
+    def mc_net_s_key(self, mc_key: bytes, addr: int) -> bytes:
+        """McNetSKey of a group, by which its frames have their MIC. Network servers call it McNwkSKey."""
+        return self.session_key("mc_net_s_key", mc_key, addr)
+
+    def session_key(self, name: str, mc_key: bytes, addr: int) -> bytes:
+        found = KEY()
+        self.call(name, key_of(mc_key), addr, found)
+        return bytes(found)
 
     def decode(self, port: int, up: bool, payload: bytes) -> str:
         """The commands of a payload of port 200 to 203, each on a line; `NoText` where it spells none."""

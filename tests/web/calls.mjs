@@ -171,6 +171,14 @@ await tried("a server without a group", () => using(new Server(library, PLAN, KE
   assert.deepEqual([server.fragmentNumber(), server.frameCount()], [6, 0]);
 }));
 
+await tried("session keys", () => {
+  const key = hex("00112233445566778899aabbccddeeff");
+  assert.deepEqual(library.mcAppSKey(key, 0x11223344), hex("1076bbc2ea64f6e75805688798928aba"));
+  assert.deepEqual(library.mcNetSKey(key, 0x11223344), hex("9f0420feddea37d9f057e1a21f2cd4ca"));
+  throws("OutOfRange", () => library.mcAppSKey(key.subarray(1), 0), /key has 15 bytes, and not 16/);
+  throws("OutOfRange", () => library.mcNetSKey(key, 2 ** 32), /addr/);
+});
+
 await tried("texts", () => {
   assert.match(library.decode(201, true, hex("0102000100")), /^FragSessionStatusAns .*\n$/);
   assert.equal(library.decode(201, true, new Uint8Array(0)), "");

@@ -2,3 +2,4 @@ pub mod Held
 pub mod Plan
 pub mod Saving
 pub mod Sent
+pub mod WorkedFields

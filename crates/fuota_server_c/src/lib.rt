@@ -7,9 +7,11 @@
 mod campaign;
 mod framing;
 mod last_status;
+mod laws;
 mod plan;
 mod saving;
 mod sent;
 mod server;
 mod server_handle;
+mod session_keys;
 mod told;

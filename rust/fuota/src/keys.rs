@@ -1,3 +1,4 @@
+use crate::sys;
 use core::fmt;
 
 /// A key of 16 bytes, in the order of the standard's keys. Its bytes get into no log: `Debug` does not show them, and two keys
@@ -14,6 +15,29 @@ impl From<[u8; 16]> for Key {
 impl fmt::Debug for Key {
     fn fmt(&self, f: &mut fmt::Formatter<'_>) -> fmt::Result {
         f.write_str("Key(..)")
+    }
+}
+
+impl Key {
+    /// McAppSKey of a group with this McKey, by which its payloads are encrypted.
+    ///
+    /// ```
+    /// use fuota::Key;
+    ///
+    /// let [app, net] = [Key([7; 16]).mc_app_s_key(0x0102_0304), Key([7; 16]).mc_net_s_key(0x0102_0304)];
+    /// assert_ne!(app.0, net.0);
+    /// ```
+    pub fn mc_app_s_key(&self, addr: u32) -> Key {
+        let mut found = Key([0; 16]);
+        sys::fuota_mc_app_s_key(&self.0, addr, &mut found.0);
+        found
+    }
+
+    /// McNetSKey of a group with this McKey, by which its frames have their MIC; network servers call it McNwkSKey.
+    pub fn mc_net_s_key(&self, addr: u32) -> Key {
+        let mut found = Key([0; 16]);
+        sys::fuota_mc_net_s_key(&self.0, addr, &mut found.0);
+        found
     }
 }
 

@@ -122,6 +122,8 @@ unsafe extern "C" {
     pub safe fn fuota_server_last_status(handle: &Server, dev: u8, out: &mut Status) -> u8;
     pub safe fn fuota_server_fragment_number(handle: &Server, number: &mut u16) -> u8;
     pub safe fn fuota_server_frame_count(handle: &Server, count: &mut u32) -> u8;
+    pub safe fn fuota_mc_app_s_key(mc_key: &[u8; 16], addr: u32, s_key: &mut [u8; 16]);
+    pub safe fn fuota_mc_net_s_key(mc_key: &[u8; 16], addr: u32, s_key: &mut [u8; 16]);
     fn fuota_server_save(handle: &Server, into: *mut u8, room: u64) -> u64;
     fn fuota_server_restore(
         handle: &mut Server,

@@ -111,6 +111,16 @@ fn fragments_go_to_the_group_as_frames() {
 }
 
 #[test]
+fn session_keys_are_those_of_another_aes() {
+    let bytes = |number: u128| Key(number.to_be_bytes());
+    let key = bytes(0x0011_2233_4455_6677_8899_aabb_ccdd_eeff);
+    let app = bytes(0x1076_bbc2_ea64_f6e7_5805_6887_9892_8aba);
+    let net = bytes(0x9f04_20fe_ddea_37d9_f057_e1a2_1f2c_d4ca);
+    assert_eq!(key.mc_app_s_key(0x1122_3344).0, app.0);
+    assert_eq!(key.mc_net_s_key(0x1122_3344).0, net.0);
+}
+
+#[test]
 fn fragments_end() {
     let mut server = Server::new(&PLAN, &[key()], &image()).unwrap();
     let mut count = 0;
