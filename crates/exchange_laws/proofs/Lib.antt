@@ -12,3 +12,4 @@ pub mod Framing
 pub mod Exchanging
 pub mod OnceAtServer
 pub mod WorkedExchange
+pub mod WorkedStages

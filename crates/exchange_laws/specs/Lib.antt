@@ -4,3 +4,4 @@ pub mod Moving
 pub mod Updating
 pub mod OnceAtServer
 pub mod WorkedExchange
+pub mod WorkedStages

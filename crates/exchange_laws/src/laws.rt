@@ -3,6 +3,7 @@
 ghost use Rattle.exchange_laws.specs.Moving.{ExchangesMove};
 ghost use Rattle.exchange_laws.specs.OnceAtServer.{MovesOnceAtServer};
 ghost use Rattle.exchange_laws.specs.WorkedExchange.{WorkedExchange};
+ghost use Rattle.exchange_laws.specs.WorkedStages.{WorkedStages};
 ghost use Rattle.exchange_laws.specs.Updating.{ExchangesMoveOn, AnswersUpdate};
 
 /// Where a server asks a device that it reaches, and the uplink that the device makes comes to the server, the stage after it is
@@ -38,4 +39,9 @@ pub fn an_uplink_moves_a_server_once()
 /// An exchange worked out: of two requests and two answers the second ones, with other lines between.
 pub fn worked_exchange()
     ensures { WorkedExchange }
+{}
+
+/// The first stages of a campaign worked out, line by line; what follows each request, and how many exchanges a plan has.
+pub fn worked_stages()
+    ensures { WorkedStages }
 {}

@@ -8,5 +8,5 @@ mod laws;
 
 pub use laws::{
     a_device_that_answers_is_updated, an_exchange_moves_a_campaign_on, an_exchange_moves_on,
-    an_uplink_moves_a_server_once, worked_exchange,
+    an_uplink_moves_a_server_once, worked_exchange, worked_stages,
 };
