@@ -2,3 +2,4 @@ pub mod Answer
 pub mod Bytes
 pub mod Calls
 pub mod Held
+pub mod WorkedAnswers

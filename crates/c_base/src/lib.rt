@@ -6,8 +6,10 @@
 pub mod answer;
 mod bytes;
 mod handle;
+mod laws;
 mod raw_box;
 
 pub use bytes::{copy_part, put_whole};
 pub use handle::Handle;
+pub use laws::worked_answers;
 pub use raw_box::RawBox;

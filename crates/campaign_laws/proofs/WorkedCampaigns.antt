@@ -39,7 +39,7 @@ use Rattle.device_core.specs.Fragments.{setup_step, fragment_step, heard_step}
 use Rattle.device_core.specs.Radio.{brought, radio}
 use Rattle.mc_frames.specs.Opening.{fault_without_group}
 use Rattle.campaign_world.specs.Summary.{with_device as with_counted, totals_from}
-use Rattle.campaign_laws.specs.WorkedCampaigns.{AreReported, AreRefused, AreCauses, AreSessions, AreCounted, ArePlanned}
+use Rattle.campaign_laws.specs.WorkedCampaigns.{AreReported, AreRefused, AreCauses, AreSessions, AreCounted, ArePlanned, AreEvents}
 
 pub refused_so : AreRefused
 unfolding campaign_of read_lines read_line cause_of form_cause in_range after_form with_device lines_of words_of word decimal_of key_of hex_number_of hex_bytes_of decode_pairs form_of next_fragment after_fragment status_to_all after_status_to_all request_of request_at radio brought fault_without_group after_due_reboot
@@ -64,3 +64,6 @@ counted_so = search
 pub planned_so : ArePlanned
 unfolding after_form
 planned_so = search
+
+pub events_so : AreEvents
+events_so = search

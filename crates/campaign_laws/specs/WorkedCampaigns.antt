@@ -6,10 +6,15 @@ use Rattle.frag_session.specs.Session.{Session, Seen, view_of}
 use Rattle.mc_keys.specs.declared.root_kind.RootKind.{RootKind}
 use Rattle.mc_keys.specs.declared.root_kind.RootKind.TheVariants.{V10, V11}
 use Rattle.device_core.specs.declared.config.Class.TheVariants as device_class
+use Rattle.package_grammar.specs.declared.downlink.To.TheVariants as to
+use Rattle.package_grammar.specs.declared.downlink.Downlink.{Downlink}
 use Rattle.device_core.specs.Device.{DeviceState}
+use Rattle.device_core.specs.Events.{Event, Wakes, Receives, HearsBytes, Migrates}
 use Rattle.session_store.specs.Size.{Size}
 use Rattle.device_core.specs.WorkedConfig.{worked_config}
 use Rattle.campaign_server.specs.declared.plan.Kind.TheVariants as kind
+use Rattle.campaign_server.specs.declared.plan.PlanGroup.{PlanGroup}
+use Rattle.campaign_server.specs.Framing.{frame_for}
 use Rattle.campaign_server.specs.Plan.{Plan}
 use Rattle.campaign_server.specs.declared.stage.Stage.TheVariants.{At, Updated, Refused}
 use Rattle.campaign_server.specs.declared.stage.Request.TheVariants as request
@@ -18,7 +23,7 @@ use Rattle.script_lines.specs.declared.forms.Class.{Class}
 use Rattle.script_lines.specs.declared.forms.Class.TheVariants as class
 use Rattle.script_lines.specs.declared.forms.DeviceLine.{DeviceLine}
 use Rattle.script_lines.specs.declared.forms.Form.{Form}
-use Rattle.script_lines.specs.declared.forms.Form.TheVariants.{Header, Image, Group, WindowC, WindowB, Device, Frag, End}
+use Rattle.script_lines.specs.declared.forms.Form.TheVariants.{Header, Image, Group, WindowC, WindowB, Device, Wake, Migrate, Frag, Down, Raw, Air, RawAir, End}
 use Rattle.image_slots.specs.WorkedImages.{worked_image, ranged_image}
 use Rattle.report_lines.specs.declared.faults.LineFault.{LineFault}
 use Rattle.report_lines.specs.declared.faults.LineWhy.{LineWhy}
@@ -32,7 +37,7 @@ use Rattle.campaign_world.specs.Summary.{heard_by, has_file, one_if, with_device
 use Rattle.campaign_world.specs.declared.recovery.NoFile.TheVariants as no_file
 use Rattle.campaign_world.specs.declared.section.Section.{Section}
 use Rattle.campaign_world.specs.declared.section.Section.TheVariants as section
-use Rattle.campaign_world.specs.Making.{config_of, device_of, after_form}
+use Rattle.campaign_world.specs.Making.{config_of, device_of, event_of, after_form}
 use Rattle.campaign_world.specs.Recovery.{file_of, recovery_by}
 use Rattle.campaign_world.specs.Report.{report_of}
 
@@ -115,6 +120,11 @@ pub record AreReported : Type 0 where
       "fuota 1\nimage 52 0\ngroup 11223344 00000000000000000000000000000000 0 10\nwindow c 1000 0 8695250 0\ndevice 1 c 1 0 0 00000000000000000000000000000000\nask 1\ndown 1 1\nup 1\nfrag\nstatus\ndown 2 1\ndown 3 1\nend\n")
       ≡ reported (codes
       "fuota report 1\nimage 52 fragments 1 size 52 padding 0 parity 0\ndevice 1 group clock 0 token 0 running 0 next none\ncounts deaf 2 refused 0 full 0 dropped 0\nend\n")
+  -- what asks for the status goes to all devices of the group
+  pub status_to_all : told (codes
+      "fuota 1\nimage 52 0\ngroup 11223344 00000000000000000000000000000000 0 10\nwindow c 1000 0 8695250 0\ndevice 1 c 1 0 0 00000000000000000000000000000000\ndevice 2 c 1 0 0 00000000000000000000000000000000\nstatus\ndown 1 2\nend\n")
+      ≡ reported (codes
+      "fuota report 1\nimage 52 fragments 1 size 52 padding 0 parity 0\ndevice 1 version clock 0 token 0 running 0 next none\ncounts deaf 0 refused 0 full 0 dropped 0\ndevice 2 version clock 0 token 0 running 0 next none\ncounts deaf 1 refused 0 full 0 dropped 0\nend\n")
   -- anybody's payloads: two that the device refuses, and a request whose answer leads the server on
   pub strangers : told (one_device (codes "raw 1 201 0801\nraw 1 204 -\nraw 1 203 01\nup 1\nend\n")) ≡ reported (codes
       "fuota report 1\nimage 52 fragments 4 size 13 padding 0 parity 0\ndevice 1 fragments clock 5 token 0 running 0 next none\ncounts deaf 0 refused 2 full 0 dropped 0\nend\n")
@@ -169,6 +179,8 @@ pub record AreRefused : Type 0 where
   pub strangers_device : told (one_device (codes "raw 2 255 00 4294967295\n")) ≡ refused 4 why.Device
   pub odd_digits : told (one_device (codes "raw 2 256 000\n")) ≡ refused 4 why.Syntax
   pub long_payload : told (one_device (codes "raw 1 201 " ++ (replicate 486 48 ++ codes "\n"))) ≡ refused 4 why.Limit
+  pub long_payload_to_nobody : told (one_device (codes "raw 2 201 " ++ (replicate 486 48 ++ codes "\n"))) ≡ refused 4 why.Device
+  pub long_payload_on_no_port : told (one_device (codes "raw 1 256 " ++ (replicate 486 48 ++ codes "\n"))) ≡ refused 4 why.Range
   pub longest_payload : told (one_device (codes "raw 1 201 " ++ (replicate 484 48 ++ codes "\n"))) ≡ refused 5 why.Syntax
   -- it is no sent payload, and has no number
   pub no_number : told (one_device (codes "raw 1 201 00\ndown 1 1\n")) ≡ refused 5 why.Unsent
@@ -268,6 +280,26 @@ pub record ArePlanned : Type 0 where
   }
   pub plain : config_of (worked_line class.C None false)
       ≡ record (worked_config device_class.C 9) { hw = 7; rows = 3; key = 8 ∷ []; size = size_16 }
+
+-- ---- what each line lets happen at a device, at 7 ms and as line 9, with the random word 109
+
+abbrev pub worked_group : PlanGroup
+worked_group = record { id = 2; addr = 7; key = 8 ∷ []; min = 5; max = 9 }
+
+abbrev pub worked_down : Downlink
+worked_down = record { to = to.Group 7 5; port = 201; payload = 0x01 ∷ 0x00 ∷ [] }
+
+abbrev pub event_by : Form → Option Event
+event_by form = event_of (Some worked_group) (record { receiver = None; down = worked_down } ∷ []) 7 9 form
+
+pub record AreEvents : Type 0 where
+  pub wakes : event_by (Wake 1) ≡ Some (Wakes 7)
+  pub migrates : event_by (Migrate 1) ≡ Some Migrates
+  pub brought : event_by (Down 1 1 109) ≡ Some (Receives 7 109 9 worked_down)
+  pub unsent : event_by (Down 2 1 109) ≡ None
+  pub aired : event_by (Air 1 1 109) ≡ Some (HearsBytes 7 109 9 (frame_for (Some worked_group) worked_down))
+  pub payload : event_by (Raw 1 200 (0x00 ∷ []) 109) ≡ Some (Receives 7 109 9 (record { to = to.Unicast; port = 200; payload = 0x00 ∷ [] }))
+  pub bytes : event_by (RawAir 1 (0x00 ∷ []) 109) ≡ Some (HearsBytes 7 109 9 (0x00 ∷ []))
 
 -- ---- two sessions of a stranger, and what a summary counts
 

@@ -6,7 +6,7 @@ ghost use Rattle.campaign_laws.specs.Independence.{DevicesAreIndependent};
 ghost use Rattle.campaign_laws.specs.Ledger.{TheLedgerIsTrue};
 ghost use Rattle.campaign_laws.specs.Recovers.{RecoversTheImage, RecoversItsOwn};
 ghost use Rattle.campaign_laws.specs.Verdicts.{Verdicts};
-ghost use Rattle.campaign_laws.specs.WorkedCampaigns.{AreCauses, AreCounted, ArePlanned, AreRefused, AreReported, AreSessions};
+ghost use Rattle.campaign_laws.specs.WorkedCampaigns.{AreCauses, AreCounted, AreEvents, ArePlanned, AreRefused, AreReported, AreSessions};
 ghost use Rattle.campaign_laws.specs.Accepted.{AllSeedsHaveCampaigns};
 ghost use Rattle.campaign_laws.specs.Once.{MovesOnce, PastMovesNone};
 ghost use Rattle.campaign_laws.specs.Airing.{AirIsDown};
@@ -44,7 +44,7 @@ pub fn sessions_live()
 {}
 
 /// Campaigns, worked out: their reports, with two sessions of one device among them; the first refused lines, each by its first
-/// cause; what a summary counts, and `recover` answers; and how each line of a plan changes it.
+/// cause; what a summary counts, and `recover` answers; how each line of a plan changes it; and what each later line lets happen.
 pub fn worked_campaigns()
     ensures reported { AreReported }
     ensures refused { AreRefused }
@@ -52,6 +52,7 @@ pub fn worked_campaigns()
     ensures sessions { AreSessions }
     ensures counted { AreCounted }
     ensures planned { ArePlanned }
+    ensures events { AreEvents }
 {}
 
 /// For any image and any accepted script: the record of each device is its own first one, changed only by the events of the

@@ -37,6 +37,7 @@ abbrev pub after_group : Plan → (id : ℕ) → (error : Bool) → Stage
 after_group plan id error =
     where_own (own_id plan.group) id Group (unless_refused Group (flag_value error 4) (At Fragments))
 
+-- FragSessionSetupAns for the plan's session leads to the window, or without a group to the status
 abbrev pub after_setup : Plan → (index bits : ℕ) → Stage
 after_setup plan index bits =
     let next = if is_some plan.group then Window else Status in
@@ -62,11 +63,13 @@ abbrev pub after_upgrade : (image : List ℕ) → (status : ℕ) → (next : Opt
 after_upgrade image status None = unless_refused Image status (At Image)
 after_upgrade image status (Some version) = if version == firmware_of image then At Reboot else Refused Image status
 
+-- the device runs the image's version, or is asked again
 abbrev pub after_check : (image : List ℕ) → (firmware : ℕ) → Stage
 after_check image firmware = if firmware == firmware_of image then Updated else At Check
 
 -- ---- the table
 
+-- the plan has a window, of class C
 abbrev pub is_class_c : Option PlanWindow → Bool
 is_class_c None = false
 is_class_c (Some window) = kind_is_c window.kind
@@ -75,6 +78,7 @@ is_class_c (Some window) = kind_is_c window.kind
     kind_is_c kind.C = true
     kind_is_c (kind.B periodicity) = false
 
+-- the plan has a window, of class B
 abbrev pub is_class_b : Option PlanWindow → Bool
 is_class_b None = false
 is_class_b (Some window) = kind_is_b window.kind

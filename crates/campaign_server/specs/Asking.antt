@@ -62,11 +62,13 @@ window_request_of id window kind.C = McClassCSessionReq id window.start window.t
 window_request_of id window (kind.B periodicity) =
     McClassBSessionReq id window.start periodicity window.timeout window.freq window.dr
 
+-- McClassCSessionReq or McClassBSessionReq
 abbrev pub window_request : (id : ℕ) → PlanWindow → Cmd
 window_request id window = window_request_of id window window.kind
 
 -- ---- the table
 
+-- a request that needs something of the plan, where that is there
 abbrev pub cast_of : {A : Type 0} → (A → Cmd) → Option A → Option Command
 cast_of request None = None
 cast_of request (Some x) = Some (Cast (request x))
@@ -87,6 +89,7 @@ request_at plan image device (Refused request bits) = None
 
 -- ---- the call
 
+-- what a device is asked at its stage
 abbrev pub command_for : Plan → (image : List ℕ) → Option PlanDevice → Option Stage → Option Command
 command_for plan image (Some device) (Some stage) = request_at plan image device stage
 command_for plan image device stage = None

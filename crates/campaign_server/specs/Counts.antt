@@ -16,6 +16,7 @@ pub data Call : Type 0 where
   StatusAll : Call
   Uplink : (dev port : ℕ) → (payload : List ℕ) → (t : ℕ) → Call
 
+-- the server after a call, whatever it answers
 abbrev pub after_call : ServerState → Call → ServerState
 after_call server NextFragment = after_fragment server
 after_call server StatusAll = after_status_to_all server
@@ -28,6 +29,7 @@ abbrev pub counts_to : To → List ℕ
 counts_to to.Unicast = []
 counts_to (to.Group addr count) = count ∷ []
 
+-- the frame counts of the group with which a fragment goes out, one or none
 abbrev pub counts_of_sent : Result DownlinkCommand Spent → List ℕ
 counts_of_sent (Ok down) = counts_to down.to
 counts_of_sent (Err spent) = []

@@ -22,6 +22,7 @@ abbrev pub has_no_count : Option PlanGroup → (count : ℕ) → Bool
 has_no_count None count = false
 has_no_count (Some group) count = count == group.max
 
+-- a group's payload takes a frame count
 abbrev pub next_count : Option PlanGroup → (count : ℕ) → ℕ
 next_count None count = count
 next_count (Some group) count = count + 1
@@ -36,6 +37,7 @@ after_count server = record server { count = next_count server.plan.group server
 abbrev pub last_fragment : ServerState → ℕ
 last_fragment server = nb_frag_of (length server.image) server.plan.frag_size + server.plan.parity
 
+-- the next fragment: none is left, no count is left, or it goes to the group, or to whom the caller brings it
 unfoldable pub next_fragment : ServerState → Result DownlinkCommand Spent
 next_fragment server =
     if nat_lt (last_fragment server) server.next then Err Fragments
@@ -46,11 +48,13 @@ next_fragment server =
           (data_of server.image server.plan.frag_size server.next));
     })
 
+-- neither its number nor its count is used again
 unfoldable pub after_fragment : ServerState → ServerState
 after_fragment server = if is_ok (next_fragment server) then after_count (record server { next = server.next + 1 }) else server
 
 -- ---- status requests, answered by devices that miss a fragment
 
+-- FragSessionStatusReq to all devices of the group, as long as a count is left
 unfoldable pub status_to_all : ServerState → Option DownlinkCommand
 status_to_all server =
     if has_no_count server.plan.group server.count then None

@@ -42,10 +42,12 @@ max_index = 3
 abbrev pub is_frag_size : (len frag_size : ℕ) → Bool
 is_frag_size len frag_size = nat_le 1 frag_size && nat_le frag_size max_frag_size && nat_le (nb_frag_of len frag_size) max_pieces
 
+-- a group has a count to send with
 abbrev pub is_group : Option PlanGroup → Bool
 is_group None = true
 is_group (Some group) = nat_lt group.min group.max && nat_le group.id max_index
 
+-- a class B session has a periodicity of the standard
 abbrev pub is_kind : Kind → Bool
 is_kind kind.C = true
 is_kind (kind.B periodicity) = nat_le periodicity 7

@@ -18,6 +18,7 @@ pub data Told : Type 0 where
   ToAll : Option DownlinkCommand → Told
   Answer : Result (Option DownlinkCommand) Refusal → Told
 
+-- what a call answers
 abbrev pub told_by : ServerState → Call → Told
 told_by server NextFragment = Fragment (next_fragment server)
 told_by server StatusAll = ToAll (status_to_all server)
@@ -39,6 +40,7 @@ pub data Step : Type 0 where
   Calls : Call → Step
   Restarts : Step
 
+-- the calls of a list, its restarts left out
 abbrev pub calls_of : List Step → List Call
 calls_of [] = []
 calls_of (Calls call ∷ steps) = call ∷ calls_of steps

@@ -44,6 +44,7 @@ window_bytes None = 0 ∷ []
 window_bytes (Some window) =
     kind_bytes window.kind ++ number_bytes 4 window.start ++ window.timeout ∷ number_bytes 4 window.freq ++ window.dr ∷ []
 
+-- GenAppKey of LoRaWAN 1.0, or AppKey of LoRaWAN 1.1
 abbrev pub root_byte : RootKind → ℕ
 root_byte V10 = 10
 root_byte V11 = 11
@@ -51,6 +52,7 @@ root_byte V11 = 11
 abbrev pub device_bytes : PlanDevice → List ℕ
 device_bytes device = device.key ++ root_byte device.root ∷ []
 
+-- the plan, which goes into the digest alone
 unfoldable pub plan_bytes : Plan → List ℕ
 plan_bytes plan =
     plan.frag_size ∷ number_bytes 2 plan.parity ++ plan.index ∷ group_bytes plan.group ++ window_bytes plan.window
@@ -58,11 +60,13 @@ plan_bytes plan =
 
 -- ---- what is known
 
+-- a stage: below 8 what is asked, 8 updated, from 16 on what was refused, with its bits
 abbrev pub stage_bytes : Stage → List ℕ
 stage_bytes (At request) = request_rank request ∷ 0 ∷ []
 stage_bytes Updated = 8 ∷ 0 ∷ []
 stage_bytes (Refused request bits) = (16 + request_rank request) ∷ bits ∷ []
 
+-- the last status: its first byte says whether there is one, and whether rows were missing
 abbrev pub status_bytes : Option LastStatus → List ℕ
 status_bytes None = 0 ∷ 0 ∷ 0 ∷ 0 ∷ []
 status_bytes (Some told) =
@@ -72,6 +76,7 @@ status_bytes (Some told) =
 abbrev pub head_bytes : (next count devices : ℕ) → List ℕ
 head_bytes next count devices = codes "FUSS" ++ 1 ∷ number_bytes 2 next ++ number_bytes 4 count ++ devices ∷ []
 
+-- all but the digest
 unfoldable pub state_bytes : ServerState → List ℕ
 state_bytes server =
     head_bytes server.next server.count (length server.stages) ++ flat_map stage_bytes server.stages

@@ -38,5 +38,6 @@ read_uplink server dev t (Ok cs) =
     record { server = with_answers server dev cs (ledger server dev); answer = Ok (by_unicast (time_answer t cs)) }
 read_uplink server dev t (Err refusal) = record { server = server; answer = Err refusal }
 
+-- an uplink: a payload that is no message changes nothing
 unfoldable pub uplink_step : ServerState → (dev port : ℕ) → List ℕ → (t : ℕ) → UplinkStep
 uplink_step server dev port payload t = read_uplink server dev t (reading_of port Up payload)

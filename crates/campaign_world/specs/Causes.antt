@@ -67,6 +67,7 @@ fits_script len count form = true
 abbrev pub is_device : (count device : ℕ) → Bool
 is_device count device = nat_le 1 device && nat_le device count
 
+-- a line that names a device names one that there is
 abbrev pub names_device : (count : ℕ) → Form → Bool
 names_device count (Wake device) = is_device count device
 names_device count (Migrate device) = is_device count device
@@ -106,6 +107,7 @@ abbrev pub is_due_by : (now : ℕ) → Option NumberedUplink → Bool
 is_due_by now None = false
 is_due_by now (Some made) = nat_le made.uplink.due now
 
+-- what a line brings was sent or made, and may come there now
 abbrev pub is_available : List SentPayload → List NumberedUplink → (now : ℕ) → Form → Bool
 is_available sent uplinks now (Down number device word) = may_reach device (numbered sent number)
 is_available sent uplinks now (Air number device word) =
@@ -138,6 +140,7 @@ has_more server form = true
 
 -- ---- all causes, the first that holds
 
+-- the cause for which a form is refused here, in the order in which they are looked for
 unfoldable pub form_cause : WorldState → Form → Option LineWhy
 form_cause world form =
     if not (is_in_order world.section form) then Some why.Order
@@ -161,6 +164,7 @@ has_begun section.Events = true
 has_begun section.Ended = true
 has_begun here = false
 
+-- what another campaign's line brings here is refused as any event is
 abbrev pub said_cause : WorldState → Said → Option LineWhy
 said_cause world (Own form) = form_cause world form
 said_cause world Elsewhere = None

@@ -32,5 +32,6 @@ abbrev pub RestsBy : Configuration → Option (HeldDevice Cells) → DeviceState
 RestsBy config None device = device ≡ first_device config
 RestsBy config (Some held) device = IsAtRest held device
 
+-- a device that may be made later stands for this record, made or not
 abbrev pub DeviceRests : Late → DeviceState → Type 0
 DeviceRests late device = RestsBy late.config late.device device

@@ -26,8 +26,10 @@ pub record Lies (bytes : List ℕ) (at len : ℕ) : Type 0 where
   pub within : at + len ≤ length bytes
   pub few : len ≤ max_payload
 
+-- the bytes of each sent payload lie in the log
 abbrev pub SentLie : (bytes : List ℕ) → List SentHead → Type 0
 SentLie bytes heads = AllByRecursion (λ (head : SentHead). Lies bytes head.at head.len) heads
 
+-- so do those of each uplink
 abbrev pub MadeLie : (bytes : List ℕ) → List MadeHead → Type 0
 MadeLie bytes heads = AllByRecursion (λ (head : MadeHead). Lies bytes head.at head.len) heads

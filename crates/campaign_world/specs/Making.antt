@@ -174,6 +174,7 @@ after_up world None = world
 after_up world (Some made) =
     after_answer world made.device (uplink_step world.server made.device made.uplink.port made.uplink.payload world.time)
 
+-- events have begun, and no line of the plan comes any more
 abbrev pub at_events : WorldState → WorldState
 at_events world = record world { section = section.Events }
 

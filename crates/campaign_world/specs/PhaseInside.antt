@@ -74,6 +74,7 @@ IsPhase (phase.Playing campaign has_ended) = Unit {0}
 
 -- ---- a world
 
+-- a campaign within a script's lines
 pub record IsWorld (lines : ℕ) (phase : Phase) : Type 0 where
   pub counted : lines ≤ max_lines
   pub phase_is : IsPhase phase

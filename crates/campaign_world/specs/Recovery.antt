@@ -9,6 +9,7 @@ use Rattle.campaign_world.specs.declared.recovery.NoFile.{NoFile}
 use Rattle.campaign_world.specs.declared.recovery.NoFile.TheVariants as no_file
 use Rattle.campaign_world.specs.World.{WorldState}
 
+-- the file of a session that is decided as complete, or where the session stands
 abbrev pub file_by : Verdict → (file : List ℕ) → Result (List ℕ) NoFile
 file_by verdict.Receiving file = Err no_file.Receiving
 file_by (verdict.Complete mark) file = Ok file
@@ -25,5 +26,6 @@ abbrev pub recovery_by : Option DeviceState → Result (List ℕ) NoFile
 recovery_by None = Err no_file.None
 recovery_by (Some device) = file_of (view_of device.sessions.first)
 
+-- what `recover` answers of a device, by its ID
 unfoldable pub recovery : WorldState → (id : ℕ) → Result (List ℕ) NoFile
 recovery world id = recovery_by (numbered world.devices id)

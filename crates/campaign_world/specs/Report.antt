@@ -50,6 +50,7 @@ abbrev pub numbered_lines : (name : List ℕ) → (number : ℕ) → ServerState
 numbered_lines name number server devices =
     found_lines server.image name (ledger server number) (numbered devices number)
 
+-- the lines of a device under a name, which may be another number than its own
 abbrev pub lines_under : (name : List ℕ) → (number : ℕ) → WorldState → List ℕ
 lines_under name number world = numbered_lines name number world.server world.devices
 

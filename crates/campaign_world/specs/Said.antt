@@ -19,6 +19,7 @@ pub data Said : Type 0 where
 abbrev pub Line : Type 0
 Line = Result Said LineWhy
 
+-- a line of a script of one campaign
 abbrev pub own : Option Form → Line
 own None = Err why.Syntax
 own (Some form) = Ok (Own form)

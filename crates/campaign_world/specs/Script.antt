@@ -23,6 +23,7 @@ abbrev pub line_result : WorldState → Line → Option LineWhy → Result World
 line_result world line None = Ok (after_line world line)
 line_result world line (Some cause) = Err (record { line = world.lines + 1; why = cause })
 
+-- the campaign after a line, or the line's fault
 unfoldable pub read_line : WorldState → Line → Result WorldState LineFault
 read_line world line = line_result world line (cause_of world line)
 
@@ -37,6 +38,7 @@ abbrev pub end_result_at : Section → WorldState → Result WorldState LineFaul
 end_result_at section.Ended world = Ok world
 end_result_at other world = Err (record { line = world.lines + 1; why = why.Syntax })
 
+-- whether it ended, where no line was refused
 abbrev pub end_result : Result WorldState LineFault → Result WorldState LineFault
 end_result (Err fault) = Err fault
 end_result (Ok world) = end_result_at world.section world

@@ -24,6 +24,7 @@ abbrev pub is_complete : Verdict → Bool
 is_complete (verdict.Complete line) = true
 is_complete other = false
 
+-- the session is decided, by its whole file
 abbrev pub has_file : Option Seen → Bool
 has_file None = false
 has_file (Some seen) = is_complete seen.verdict

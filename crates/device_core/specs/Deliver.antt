@@ -48,6 +48,7 @@ via_of session to.Unicast = via.Unicast
 via_of None (to.Group addr count) = via.Unicast
 via_of (Some session) (to.Group addr count) = via.Group session.id
 
+-- when and how a payload comes
 abbrev pub arrival : (t word mark : ℕ) → Downlink → DeviceState → Arrival
 arrival t word mark down device = record {
   moment = record { t = t; word = word; mark = mark };
@@ -79,6 +80,7 @@ time_asking t device =
 
 -- ---- the calls: these two each between the reboots that are due
 
+-- after a call a reboot that has become due by then is carried out
 abbrev pub with_due_reboot : {A : Type 0} → (t : ℕ) → Outcome A → Outcome A
 with_due_reboot t outcome = record outcome { device = after_due_reboot t outcome.device }
 
@@ -95,5 +97,6 @@ abbrev taken : DeviceState → List Uplink → Outcome (Option Uplink)
 taken device [] = record { device = device; answer = None }
 taken device (oldest ∷ others) = record { device = record device { outbox = others }; answer = Some oldest }
 
+-- the oldest uplink is taken
 abbrev pub taking : DeviceState → Outcome (Option Uplink)
 taking device = taken device device.outbox

@@ -88,9 +88,11 @@ abbrev pub has_ranges : Configuration → (room : ℕ) → Bool
 has_ranges config room =
     if config.held then nat_le records_place config.span && nat_le (4 * config.span) room else true
 
+-- what a session may be of a device
 abbrev pub limits_of : Configuration → Limits
 limits_of config = record { sessions = config.sessions; rows = config.rows; descriptor = config.descriptor }
 
+-- how its sessions lie in memory, or in flash
 abbrev pub layout_of : Configuration → SizedLayout
 layout_of config = record { size = config.size; area = config.area; span = config.span; limits = limits_of config }
 
@@ -108,12 +110,15 @@ counter_after n = min (n + 1) (2 ^ 64 - 1)
 abbrev pub after_deaf : Counts → Counts
 after_deaf counts = record counts { deaf = counter_after counts.deaf }
 
+-- a payload that is no message was refused
 abbrev pub after_refused : Counts → Counts
 after_refused counts = record counts { refused = counter_after counts.refused }
 
+-- a payload whose answers had no room was not taken
 abbrev pub after_full : Counts → Counts
 after_full counts = record counts { full = counter_after counts.full }
 
+-- a fragment was dropped
 abbrev pub after_dropped : Counts → Counts
 after_dropped counts = record counts { dropped = counter_after counts.dropped }
 

@@ -15,6 +15,7 @@ abbrev pub KindFits : Kind → Type 0
 KindFits ClassC = Unit {0}
 KindFits (ClassB periodicity) = periodicity < 8
 
+-- the numbers of a class session are within their fields
 abbrev pub SessionFits : Option ClassSession → Type 0
 SessionFits None = Unit {0}
 SessionFits (Some session) = (session.id < max_groups) × (session.timeout < 16) × KindFits session.kind

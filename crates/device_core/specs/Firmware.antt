@@ -24,6 +24,7 @@ upgrade_answer image.Corrupt = DevUpgradeImageAns 1 None
 upgrade_answer image.Incompatible = DevUpgradeImageAns 2 None
 upgrade_answer (image.Valid version) = DevUpgradeImageAns 3 (Some version)
 
+-- DevUpgradeImageReq is answered by what is next
 unfoldable pub upgrade_step : Arrival → DeviceState → DeviceStep
 upgrade_step here device = one_answer here device (Sync (upgrade_answer device.slots.next))
 
@@ -56,6 +57,7 @@ countdown_step here device count =
 abbrev pub is_reached : (now moment : ℕ) → Bool
 is_reached now moment = nat_lt ((now + (2 ^ 32 - moment)) % 2 ^ 32) (2 ^ 31)
 
+-- a reboot is set, and its moment has come
 abbrev pub is_due : (now : ℕ) → Option ℕ → Bool
 is_due now None = false
 is_due now (Some moment) = is_reached now moment

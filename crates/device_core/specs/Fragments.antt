@@ -44,6 +44,7 @@ setup_step here device req =
 
 -- ---- FragSessionDeleteReq
 
+-- FragSessionDeleteReq: the session goes, and where there is none the answer says so
 unfoldable pub delete_step : Arrival → DeviceState → (index : ℕ) → DeviceStep
 delete_step here device index =
     one_answer here (record device { sessions = with_session device.sessions index None })
@@ -66,6 +67,7 @@ status_answers here index (Some status) = record {
   command = Cast (FragSessionStatusAns index status.received status.missing status.norows);
 } ∷ []
 
+-- FragSessionStatusReq is answered where the session has something to say to whoever asked
 unfoldable pub status_step : Arrival → DeviceState → (index : ℕ) → (all : Bool) → DeviceStep
 status_step here device index all =
     let status = status_of (session_at device.sessions index) here.via all in

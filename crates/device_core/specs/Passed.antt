@@ -31,6 +31,7 @@ unfoldable pub command_tables : Arrival → DeviceState → Command → List Ses
 command_tables here device command =
     device.sessions ∷ tables_between device.sessions command ++ (command_step here device command).device.sessions ∷ []
 
+-- the tables of sessions that a command passes through: one where it does not act
 unfoldable pub step_tables : Arrival → DeviceState → Command → List SessionTable
 step_tables here device command =
     if acts here.via command then command_tables here device command else device.sessions ∷ []

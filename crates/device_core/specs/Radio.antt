@@ -40,11 +40,13 @@ brought_to None bytes = Err (fault_without_group bytes)
 brought_to (Some group) bytes =
     payload_to group.addr (opening (session_keys group) group.addr group.min group.max bytes)
 
+-- the payload that bytes of the air bring to the group that is heard, or why they bring none
 unfoldable pub brought : DeviceState → List ℕ → Result Downlink FrameFault
 brought device bytes = brought_to (heard_group device.groups device.class_session) bytes
 
 -- ---- the call
 
+-- bytes that were a frame did what their payload does
 abbrev pub aired : Outcome Delivered → Outcome Aired
 aired made = record { device = made.device; answer = Heard made.answer }
 
@@ -54,5 +56,6 @@ after_frame t word mark (Ok down) device = aired (delivery t word mark down devi
 after_frame t word mark (Err fault) device =
     record { device = with_counts after_deaf (after_due_reboot t device); answer = Foreign fault }
 
+-- what bytes of the air do
 unfoldable pub radio : (t word mark : ℕ) → List ℕ → DeviceState → Outcome Aired
 radio t word mark bytes device = after_frame t word mark (brought device bytes) device

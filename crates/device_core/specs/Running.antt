@@ -24,6 +24,7 @@ pub data Call : Type 0 where
   Raises : Call
   Powers : (whole : CompleteFlags) → SessionTable → Call
 
+-- the device after a call, whatever it answers
 abbrev pub after_call : DeviceState → Call → DeviceState
 after_call device (Delivers t word mark down) = (delivery t word mark down device).device
 after_call device (Airs t word mark bytes) = (radio t word mark bytes device).device

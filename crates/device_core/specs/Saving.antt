@@ -44,6 +44,7 @@ use Rattle.device_core.specs.Sendable.{IsUplink}
 
 -- ---- fields
 
+-- a byte that says whether there is a value, and the value, or zeros in its place
 abbrev pub option_bytes : {A : Type 0} → (width : ℕ) → (A → List ℕ) → Option A → List ℕ
 option_bytes width fields None = 0 ∷ replicate width 0
 option_bytes width fields (Some value) = 1 ∷ fields value
@@ -51,9 +52,11 @@ option_bytes width fields (Some value) = 1 ∷ fields value
 abbrev pub flag_byte : Bool → ℕ
 flag_byte flag = if flag then 1 else 0
 
+-- the mark FUSD, the form of the record, which is 1, and the clock
 abbrev pub clock_bytes : Clock → List ℕ
 clock_bytes clock = codes "FUSD" ++ 1 ∷ number_bytes 4 clock.offset ++ clock.token ∷ []
 
+-- the moment of the last uplink
 abbrev pub moment_bytes : Option ℕ → List ℕ
 moment_bytes last_due = option_bytes 8 (λ due. number_bytes 8 due) last_due
 
@@ -68,6 +71,7 @@ groups_bytes groups =
     group_bytes (group_at groups 0) ++ group_bytes (group_at groups 1) ++ group_bytes (group_at groups 2)
     ++ group_bytes (group_at groups 3)
 
+-- class C or class B
 abbrev pub kind_byte : Kind → ℕ
 kind_byte ClassC = 0
 kind_byte (ClassB periodicity) = 1
@@ -76,6 +80,7 @@ abbrev pub periodicity_of : Kind → ℕ
 periodicity_of ClassC = 0
 periodicity_of (ClassB periodicity) = periodicity
 
+-- a class session, its length by TimeOut
 abbrev pub session_fields : ClassSession → List ℕ
 session_fields session =
     session.id ∷ kind_byte session.kind ∷ periodicity_of session.kind ∷ number_bytes 4 session.time ++ session.timeout ∷ []
@@ -83,6 +88,7 @@ session_fields session =
 abbrev pub session_bytes : Option ClassSession → List ℕ
 session_bytes session = option_bytes 8 session_fields session
 
+-- the second of the device's clock at which it reboots
 abbrev pub reboot_bytes : Option ℕ → List ℕ
 reboot_bytes reboot = option_bytes 4 (λ moment. number_bytes 4 moment) reboot
 
@@ -90,6 +96,7 @@ abbrev pub counts_bytes : Counts → List ℕ
 counts_bytes counts =
     number_bytes 8 counts.deaf ++ number_bytes 8 counts.refused ++ number_bytes 8 counts.full ++ number_bytes 8 counts.dropped
 
+-- what is next, and after it the version, which is 0 where the byte is not 3
 abbrev pub next_byte : ImageState → ℕ
 next_byte image.None = 0
 next_byte image.Corrupt = 1
@@ -100,20 +107,24 @@ abbrev pub next_version : ImageState → ℕ
 next_version (image.Valid version) = version
 next_version other = 0
 
+-- both slots, their files by their lengths alone
 abbrev pub slots_bytes : Slots → List ℕ
 slots_bytes slots =
     slots.formats ∷ number_bytes 4 slots.version ++ next_byte slots.next ∷ number_bytes 4 (next_version slots.next)
     ++ number_bytes 4 (length slots.running) ++ number_bytes 4 (length slots.next_file)
 
+-- which sessions had their file whole
 abbrev pub flags_bytes : CompleteFlags → List ℕ
 flags_bytes flags =
     flag_byte flags.first ∷ flag_byte flags.second ∷ flag_byte flags.third ∷ flag_byte flags.fourth ∷ []
 
+-- an uplink in 32 bytes, whatever its length
 abbrev pub uplink_bytes : Uplink → List ℕ
 uplink_bytes uplink =
     number_bytes 8 uplink.due ++ uplink.port ∷ length uplink.payload ∷ uplink.payload
     ++ replicate (22 - length uplink.payload) 0
 
+-- how many uplinks wait, and room for eight
 abbrev pub uplinks_bytes : List Uplink → List ℕ
 uplinks_bytes uplinks =
     length uplinks ∷ flat_map uplink_bytes uplinks ++ replicate (256 - 32 * length uplinks) 0
@@ -124,10 +135,12 @@ abbrev pub class_byte : Class → ℕ
 class_byte class.A = 0
 class_byte class.C = 1
 
+-- GenAppKey of LoRaWAN 1.0, or AppKey of LoRaWAN 1.1
 abbrev pub root_byte : RootKind → ℕ
 root_byte V10 = 10
 root_byte V11 = 11
 
+-- the configuration, which goes into the digest alone
 unfoldable pub config_bytes : Configuration → List ℕ
 config_bytes config =
     class_byte config.class ∷ number_bytes 4 config.hw ++ config.formats ∷ number_bytes 2 config.rows
@@ -137,12 +150,14 @@ config_bytes config =
 
 -- ---- all of it
 
+-- all but the digest
 unfoldable pub state_bytes : DeviceState → CompleteFlags → List ℕ
 state_bytes device flags =
     clock_bytes device.clock ++ moment_bytes device.last_due ++ groups_bytes device.groups
     ++ session_bytes device.class_session ++ reboot_bytes device.reboot ++ counts_bytes device.counts
     ++ slots_bytes device.slots ++ flags_bytes flags ++ uplinks_bytes device.outbox
 
+-- the digest is over the configuration and both files too
 unfoldable pub saved_of : DeviceState → CompleteFlags → List ℕ
 saved_of device flags =
     let state = state_bytes device flags in
@@ -150,6 +165,7 @@ saved_of device flags =
 
 -- ---- of which records
 
+-- the number, where there is one, is below a limit
 abbrev pub IsBelow : (limit : ℕ) → Option ℕ → Type 0
 IsBelow limit None = Unit {0}
 IsBelow limit (Some n) = n < limit

@@ -31,6 +31,7 @@ abbrev pub restore_error : ReserveError → RestoreError
 restore_error new.Memory = restored.Memory
 restore_error new.BadConfig = restored.BadConfig
 
+-- a value where the byte before it says that there is one
 abbrev pub option_at : {A : Type 0} → (List ℕ → ℕ → A) → List ℕ → (at : ℕ) → Option A
 option_at fields bytes at = if slice_index bytes at == 0 then None else Some (fields bytes (at + 1))
 
@@ -55,6 +56,7 @@ place_in bytes id = option_at group_in bytes (19 + 29 * id)
 abbrev pub groups_in : List ℕ → (number : ℕ) → List (Option Group)
 groups_in bytes number = map (λ id. place_in bytes id) (range_with_len 0 number)
 
+-- a byte that is not 0 is class B
 abbrev pub kind_of : (byte periodicity : ℕ) → Kind
 kind_of byte periodicity = if byte == 0 then ClassC else ClassB (periodicity % 8)
 
@@ -84,9 +86,11 @@ counts_in bytes = record {
 abbrev pub formats_of : (formats byte : ℕ) → ℕ
 formats_of formats byte = if byte == 2 then 2 else formats
 
+-- at least what the configuration has
 abbrev pub formats_in : (formats : ℕ) → List ℕ → ℕ
 formats_in formats bytes = formats_of formats (slice_index bytes 181)
 
+-- the slot that runs, its file handed in beside the record
 abbrev pub running_in : Slots → List ℕ → (running : List ℕ) → Slots
 running_in slots bytes running =
     record slots { formats = formats_in slots.formats bytes; version = number_at bytes 182 4; running = running }
@@ -111,6 +115,7 @@ flags_in bytes = record {
   fourth = flag_of (slice_index bytes 202);
 }
 
+-- an uplink, of at most 22 bytes
 abbrev pub uplink_at : List ℕ → (at : ℕ) → Uplink
 uplink_at bytes at = record {
   due = number_at bytes at 8;
@@ -118,6 +123,7 @@ uplink_at bytes at = record {
   payload = slice_range bytes (at + 10) (at + 10 + min (slice_index bytes (at + 9)) 22);
 }
 
+-- at most eight uplinks
 abbrev pub uplinks_in : List ℕ → List Uplink
 uplinks_in bytes = map (λ k. uplink_at bytes (204 + 32 * k)) (range_with_len 0 (min (slice_index bytes 203) 8))
 

@@ -85,6 +85,7 @@ weight (Sync (s.AppTimeAns correction token)) = 0
 weight (Sync (s.ForceDeviceResyncReq count)) = count
 weight command = 1
 
+-- how many uplinks commands may make at most, all together
 abbrev pub weights : List Command → ℕ
 weights [] = 0
 weights (c ∷ cs) = weight c + weights cs

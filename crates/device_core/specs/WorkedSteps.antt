@@ -191,6 +191,9 @@ pub record SessionSteps : Type 0 where
   pub at_3 : sends 0 201 (0x03 ∷ 0x03 ∷ 0x03 ∷ 0x02 ∷ []) at_2 ≡ (0x03 ∷ 0x07 ∷ []) ∷ (0x03 ∷ 0x02 ∷ []) ∷ []
   -- by unicast the answer is due at once
   pub undelayed : answer_delay via.Unicast 109 2 ≡ 0
+  -- by a group it waits so many seconds of the random word as BlockAckDelay says, from 16 to 2,048
+  pub least_delay : answer_delay (via.Group 0) 2157 0 ≡ 13000
+  pub most_delay : answer_delay (via.Group 0) 2157 7 ≡ 109000
   -- it is deleted once
   pub deleted : sends 0 201 (0x03 ∷ 0x01 ∷ 0x03 ∷ 0x01 ∷ []) set_up ≡ (0x03 ∷ 0x01 ∷ []) ∷ (0x03 ∷ 0x05 ∷ []) ∷ []
   -- setups that are refused: no fragments, all padding, too many, another coding, an index or a descriptor that is not accepted
@@ -433,6 +436,7 @@ pub record FirmwareSteps : Type 0 where
   -- both formats are known from now on; next is read again, but not where it is none, and no reboot is carried out
   pub migrated : (after_migration (record ready { slots = record ready.slots { formats = 1 }; reboot = Some 0 })).slots
       ≡ record { formats = 2; version = 0; running = []; next = image.Corrupt; next_file = 0x07 ∷ [] }
+  pub reboot_stays : (after_migration (record ready { reboot = Some 15 })).reboot ≡ Some 15
   pub none_migrated : (after_migration fresh).slots ≡ fresh.slots
   pub due : (waking 15000 (record ready { reboot = Some 15 })).device.slots.version ≡ 2
   -- its moment is one of the device's clock, and is cleared, whatever next is

@@ -4,6 +4,7 @@ use Rattle.std.specs.Prelude.{◌≡◌, ℕ, ◌+◌, ◌*◌, ◌/◌, ◌%◌
 use Rattle.frag_session.specs.declared.setups.SetupReq.{SetupReq}
 use Rattle.flash_session.specs.Contents.{byte_at}
 
+-- the ten bytes of a setup, as FragSessionSetupReq has them
 unfoldable pub setup_bytes : SetupReq → List ℕ
 setup_bytes req =
     (16 * req.index + req.mask)

@@ -13,6 +13,7 @@ pub record IsFirstStray (c : List ℕ) (at most n k : ℕ) : Type 0 where
   pub front : GatesOpen c at n k
   pub opened : byte_at c (at + k) ≡ open_gate
 
+-- how many gates are open from the first on, and the first open one behind a closed one
 abbrev pub IsFront : (holds : List ℕ → Type 0) → (at most : ℕ) → Front → Type 0
 IsFront holds at most (Whole n) = (n ≤ most) × ((b : List ℕ) → holds b → GatesOpen b at n most)
 IsFront holds at most (Stray k) = (k < most) × (n : ℕ) × ((b : List ℕ) → holds b → IsFirstStray b at most n k)

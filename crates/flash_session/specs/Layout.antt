@@ -20,6 +20,7 @@ body_size = 10
 abbrev pub gates_place : ℕ
 gates_place = 64
 
+-- twice the most pieces, and one
 abbrev pub most_records : ℕ
 most_records = 8193
 
@@ -27,6 +28,7 @@ most_records = 8193
 abbrev pub tallies_place : ℕ
 tallies_place = 8257
 
+-- the most that a status answer tells
 abbrev pub most_tallies : ℕ
 most_tallies = 16383
 

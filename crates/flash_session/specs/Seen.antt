@@ -2,6 +2,7 @@
 use Rattle.std.specs.Prelude.{ℕ, List}
 use Rattle.flash_session.specs.Contents.{Same, Follows}
 
+-- what a flash tells of its bytes
 pub record FlashSeen : Type 1 where
   -- a read gives the bytes of this content
   pub holds : List ℕ → Type 0

@@ -12,11 +12,13 @@ pub record IsOf (solver : Solved) (setup : SetupReq) : Type 0 where
   pub frag_size : solver.shape.frag_size ≡ setup.frag_size
   pub short : setup.padding < setup.frag_size
 
+-- a session of this setup that is not decided
 pub record IsReceiving (solver : Solved) (setup : SetupReq) (received : ℕ) : Type 0 where
   pub its : IsOf solver setup
   pub counted : received ≤ max_received
   pub stage : solver.stage ≡ stage.Receiving
 
+-- a session of this setup whose file is whole
 pub record IsComplete (solver : Solved) (setup : SetupReq) (received : ℕ) : Type 0 where
   pub its : IsOf solver setup
   pub counted : received ≤ max_received

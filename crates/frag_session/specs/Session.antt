@@ -154,6 +154,7 @@ status_by seen delay = record {
 abbrev pub answers : SetupReq → Seen → Via → Bool → Bool
 answers setup seen way all = not (excludes setup.mask way) && (all || nat_lt 0 seen.missing)
 
+-- FragSessionStatusReq of a group or by unicast, for all or for those that miss pieces
 unfoldable pub status_in : SetupReq → Seen → Via → Bool → Option StatusAns
 status_in setup seen way all = if answers setup seen way all then Some (status_by seen setup.delay) else None
 

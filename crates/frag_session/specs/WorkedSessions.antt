@@ -73,12 +73,15 @@ session_of req rows heard = record { setup = req; rows = rows; heard = heard }
 abbrev pub worked_session : Session
 worked_session = session_of worked_setup 4 (one_heard ∷ [])
 
--- one for groups 0 and 1
-abbrev pub setup_of_two : SetupReq
-setup_of_two = record worked_setup { mask = 3 }
+-- one for the groups of a mask, and one of as many fragments as there may be
+abbrev pub setup_for : (mask : ℕ) → SetupReq
+setup_for mask = record worked_setup { mask = mask }
 
-abbrev pub session_of_two : Session
-session_of_two = session_of setup_of_two 4 (one_heard ∷ [])
+abbrev pub session_for : (mask : ℕ) → Session
+session_for mask = session_of (setup_for mask) 4 (one_heard ∷ [])
+
+abbrev pub longest_session : Session
+longest_session = session_of (record worked_setup { nb_frag = 4096 }) 256 []
 
 -- what another setup makes of the session
 abbrev pub renewed_by : SetupReq → Option Session
@@ -111,13 +114,19 @@ pub record WorkedFragments : Type 0 where
   pub own_group : drop_cause (Some worked_session) (Group 0) 1 (replicate 13 9) ≡ None
   pub other_group : drop_cause (Some worked_session) (Group 1) 1 (replicate 13 9) ≡ Some cause.Group
   -- a mask of two groups lets in both, and no third
-  pub first_of_two : drop_cause (Some session_of_two) (Group 0) 1 (replicate 13 9) ≡ None
-  pub second_of_two : drop_cause (Some session_of_two) (Group 1) 1 (replicate 13 9) ≡ None
-  pub third_group : drop_cause (Some session_of_two) (Group 2) 1 (replicate 13 9) ≡ Some cause.Group
+  pub first_of_two : drop_cause (Some (session_for 3)) (Group 0) 1 (replicate 13 9) ≡ None
+  pub second_of_two : drop_cause (Some (session_for 3)) (Group 1) 1 (replicate 13 9) ≡ None
+  pub third_group : drop_cause (Some (session_for 3)) (Group 2) 1 (replicate 13 9) ≡ Some cause.Group
+  pub last_group : drop_cause (Some (session_for 8)) (Group 3) 1 (replicate 13 9) ≡ None
+  pub below_last : drop_cause (Some (session_for 8)) (Group 2) 1 (replicate 13 9) ≡ Some cause.Group
+  pub middle_group : drop_cause (Some (session_for 6)) (Group 1) 1 (replicate 13 9) ≡ None
+  pub below_middle : drop_cause (Some (session_for 6)) (Group 0) 1 (replicate 13 9) ≡ Some cause.Group
   -- from 1 to the last that is coded
   pub no_number : drop_cause (Some worked_session) Unicast 0 (replicate 13 9) ≡ Some cause.Index
   pub last : drop_cause (Some worked_session) Unicast 8384 (replicate 13 9) ≡ None
   pub behind : drop_cause (Some worked_session) Unicast 8385 (replicate 13 9) ≡ Some cause.Index
+  pub very_last : drop_cause (Some longest_session) Unicast 12476 (replicate 13 9) ≡ None
+  pub behind_all : drop_cause (Some longest_session) Unicast 12477 (replicate 13 9) ≡ Some cause.Index
   -- with the bytes of a fragment
   pub short : drop_cause (Some worked_session) Unicast 1 (replicate 12 9) ≡ Some cause.Size
   pub long : drop_cause (Some worked_session) Unicast 1 (replicate 14 9) ≡ Some cause.Size
@@ -166,11 +175,11 @@ pub record WorkedStatus : Type 0 where
       ≡ Some (record { received = 4; missing = 0; norows = false; delay = 2 })
   pub own_group_whole : status_in worked_setup (seen_with 4 0 (Complete 9)) (Group 0) false ≡ None
   -- by both groups of a mask, and by no third
-  pub first_of_two : status_in setup_of_two (seen_with 3 1 Receiving) (Group 0) false
+  pub first_of_two : status_in (setup_for 3) (seen_with 3 1 Receiving) (Group 0) false
       ≡ Some (record { received = 3; missing = 1; norows = false; delay = 2 })
-  pub second_of_two : status_in setup_of_two (seen_with 3 1 Receiving) (Group 1) false
+  pub second_of_two : status_in (setup_for 3) (seen_with 3 1 Receiving) (Group 1) false
       ≡ Some (record { received = 3; missing = 1; norows = false; delay = 2 })
-  pub third_group : status_in setup_of_two (seen_with 3 1 Receiving) (Group 2) true ≡ None
+  pub third_group : status_in (setup_for 3) (seen_with 3 1 Receiving) (Group 2) true ≡ None
   pub no_session : status_of None Unicast true ≡ None
   -- 8 bits of missing fragments, and whether the rows did not suffice
   pub many : status_in worked_setup (seen_with 3 300 Receiving) Unicast true ≡ Some (record { received = 3; missing = 255; norows = false; delay = 2 })

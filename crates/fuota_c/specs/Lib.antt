@@ -9,3 +9,4 @@ pub mod Flash
 pub mod Saving
 pub mod Telling
 pub mod Version
+pub mod WorkedFields

@@ -1,5 +1,5 @@
 -- What a device saves for C, and the device that is restored from such bytes.
-use Rattle.std.specs.Prelude.{◌≡◌, ◌⊎◌, ℕ, Bool, true, false, not, IsTrue, List, Option, Some, None}
+use Rattle.std.specs.Prelude.{◌≡◌, ◌⊎◌, ℕ, Bool, true, false, List, Option, Some, None}
 use Rattle.flash_session.specs.Flashes.{Cells}
 use Rattle.device_core.specs.Configuration.{Configuration}
 use Rattle.device_core.specs.HeldDevice.{HeldDevice}

@@ -9,6 +9,7 @@ mod decoding;
 mod device;
 mod device_handle;
 mod flash;
+mod laws;
 mod radio;
 mod receiver;
 mod receiver_handle;

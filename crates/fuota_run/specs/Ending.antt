@@ -23,6 +23,7 @@ HoldsInvocation held (Some (generates seed)) = ⊤
 HoldsInvocation held (Some (plays_two image_a image_b script)) =
     HoldsName held image_a × HoldsName held image_b × HoldsName held script
 
+-- where the files are told there is one under each name that the words ask for
 abbrev pub HoldsForm : Option Held → List (List ℕ) → Type 0
 HoldsForm None words = ⊤
 HoldsForm (Some held) words = HoldsInvocation (Some held) (asked words)
@@ -58,6 +59,7 @@ IsAnswerToSome (Some (plays_two name_a name_b script_name)) a =
     (image_a : List ℕ) × (image_b : List ℕ) × (script : List ℕ)
     × (a ≡ campaigns_answer (Some image_a) (Some image_b) (Some script))
 
+-- the answer is what the words ask of the files, or of some files where none are told
 abbrev pub Gives : Option Held → Option Invocation → Answer → Type 0
 Gives None what a = IsAnswerToSome what a
 Gives (Some held) what a = IsAnswerTo what held a

@@ -105,6 +105,7 @@ pub record IsCaptureWritten (replay_file : List ℕ) (items : List Entry) (old n
   pub text : Appends old new (codes "fuota capture 1\n" ++ (entries_text 1 items ++ closing_text device))
   pub replay : Replays replay_file (Ok (codes "fuota replay 1\n" ++ closing_text device))
 
+-- a capture that is not refused is written with what its device heard
 abbrev pub IsCaptureRun : List (List ℕ) → Held → Status → Option (List ℕ) → Option (List ℕ) → Type 0
 IsCaptureRun words held s old new = (file replay_file : List ℕ) (items : List Entry) → IsFileHandedIn words held Capture file
     → IsReplayOf file replay_file items → s ≡ status.Done → IsCaptureWritten replay_file items old new
@@ -161,6 +162,7 @@ pub record IsRecoveryWritten (image script : List ℕ) (world : WorldState) (dev
   pub image_is : (file : List ℕ) → All (λ b. b < 2 ^ 8) image → AreHonest 0 (said_in script) → recovery world device ≡ Ok file → IsWritten (answer status.Done image) s old new
   pub no_file : (why : NoFile) → recovery world device ≡ Err why → IsWritten (not_complete device why) s old new
 
+-- a script that is not refused gives the file of a device, or says where it stands
 abbrev pub IsRecoveryRun : List (List ℕ) → Held → Status → Option (List ℕ) → Option (List ℕ) → Type 0
 IsRecoveryRun words held s old new = (device : ℕ) (image script : List ℕ) (world : WorldState) → AreHandedIn words held (Recover device) image script
     → campaign_of image (said_in script) ≡ Ok world → IsRecoveryWritten image script world device s old new
@@ -177,6 +179,7 @@ pub record IsReplayWritten (file : List ℕ) (device : DeviceState) (s : Status)
   pub verdicts : (index : ℕ) (session : Session) → replayed.IsReplayed file device index session
       → IsReplayVerdict file device index session
 
+-- payloads that are not refused are reported by their device's session
 abbrev pub IsReplayRun : List (List ℕ) → Held → Status → Option (List ℕ) → Option (List ℕ) → Type 0
 IsReplayRun words held s old new = (file : List ℕ) (device : DeviceState) → IsFileHandedIn words held Replay file
     → Reaches (lines_of file) (Ok device) → IsReplayWritten file device s old new

@@ -8,6 +8,7 @@ abbrev pub IsSource : Option Held → List ℕ → ℕ → List ℕ → Type 0
 IsSource None name limit bytes = ⊤
 IsSource (Some held) name limit bytes = held name ≡ Some bytes
 
+-- a told file is longer than is read
 abbrev pub IsTooLong : Option Held → List ℕ → ℕ → Type 0
 IsTooLong None name limit = ⊤
 IsTooLong (Some held) name limit = IfSome (held name) (λ bytes. limit < length bytes)

@@ -90,6 +90,7 @@ within first last n = if nat_le first n && nat_le n last then Some n else None
 abbrev pub port_by : ℕ → Option ℕ
 port_by port = within 200 203 port
 
+-- the port of a package
 abbrev pub port_of_word : Text → Option ℕ
 port_of_word word = decimal_of word >>= port_by
 
@@ -97,6 +98,7 @@ port_of_word word = decimal_of word >>= port_by
 abbrev pub device_by : ℕ → Option ℕ
 device_by device = within 1 max_devices device
 
+-- a device from 1 to 64
 abbrev pub device_of_word : Text → Option ℕ
 device_of_word word = decimal_of word >>= device_by
 
@@ -104,6 +106,7 @@ device_of_word word = decimal_of word >>= device_by
 abbrev pub seed_by : ℕ → Option ℕ
 seed_by seed = if nat_lt seed (2 ^ 32) then Some seed else None
 
+-- a seed
 abbrev pub seed_of_word : Text → Option ℕ
 seed_of_word word = decimal_of word >>= seed_by
 
@@ -116,6 +119,7 @@ campaign_asked rows = do
   script ← first_of (codes "SCRIPT") rows
   Some (plays Campaign image script)
 
+-- a word that is no device asks nothing
 abbrev pub recover_asked : List Row → Option Invocation
 recover_asked rows = do
   image ← first_of (codes "IMAGE") rows
@@ -129,6 +133,7 @@ replay_asked rows = do
   file ← first_of (codes "FILE") rows
   Some (payloads Replay file)
 
+-- a word that is no port or no direction asks nothing
 abbrev pub decode_asked : List Row → Option Invocation
 decode_asked rows = do
   port_word ← first_of (codes "PORT") rows
@@ -156,6 +161,7 @@ campaigns_asked rows = do
   script ← first_of (codes "SCRIPT") rows
   Some (plays_two image_a image_b script)
 
+-- what the words ask, by the first of them
 unfoldable pub asked_by : Text → List Row → Option Invocation
 asked_by keyword rows =
     if bytes_eq keyword (codes "campaign") then campaign_asked rows

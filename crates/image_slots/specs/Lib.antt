@@ -1,4 +1,5 @@
 pub mod Image
+pub mod Parts
 pub mod Slots
 pub mod HeldSlots
 pub mod WorkedImages

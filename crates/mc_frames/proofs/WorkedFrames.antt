@@ -1,5 +1,6 @@
 -- The worked codes, frames and faults, by computing.
-use Rattle.std.proofs.Common.{◌≡◌, [], ◌∷◌, ◌++◌, take, refl}
+use Rattle.std.proofs.Common.{◌≡◌, [], ◌∷◌, ◌++◌, ◌*◌, take, map, refl}
+use Rattle.std.specs.List.{range_with_len}
 use Rattle.aes_block.specs.Field.{xtime, sum_of_products, times, inverse, affine_bit, sub_byte}
 use Rattle.aes_block.specs.Cipher.{sub_bytes, shift_rows, mixed, mix_columns, add_round_key, next_words, words_from, after_round, cipher}
 use Rattle.wire_base.specs.Numbers.{number_at}
@@ -56,12 +57,20 @@ long : frame_of worked_keys 0x11223344 0x00 65537 201 long_payload ≡ long_fram
 unfolding message_of frame_of
 long = rw (long_encrypted, long_code) refl
 
+blocks : map (λ b. stream_byte worked_keys.app_s 0x11223344 65537 (16 * b)) (range_with_len 0 16) ≡ 0xad ∷ 0xe8 ∷ 0xad ∷ 0xde ∷ 0x65 ∷ 0x68 ∷ 0x35 ∷ 0x7b ∷ 0x0f ∷ 0x9f ∷ 0x37 ∷ 0x4d ∷ 0xec ∷ 0xc1 ∷ 0xc2 ∷ 0x37 ∷ []
+unfolding xtime sum_of_products times inverse affine_bit sub_byte sub_bytes shift_rows mixed mix_columns add_round_key next_words words_from after_round cipher
+blocks = refl
+
+longest : mic worked_keys 0x11223344 65537 (range_with_len 0 251) ≡ 0x6e ∷ 0x8f ∷ 0x95 ∷ 0x73 ∷ []
+unfolding xtime sum_of_products times inverse affine_bit sub_byte sub_bytes shift_rows mixed mix_columns add_round_key next_words words_from after_round cipher xor_blocks shifted subkey last_block chained cmac mic
+longest = refl
+
 second_block : stream_byte worked_keys.app_s 0x11223344 0x01020304 16 ≡ 0xd3
 unfolding xtime sum_of_products times inverse affine_bit sub_byte sub_bytes shift_rows mixed mix_columns add_round_key next_words words_from after_round cipher
 second_block = refl
 
 pub frames : WorkedFrames
-frames = search (frame, pending, long, second_block)
+frames = search (frame, pending, long, blocks, longest, second_block)
 
 pub faults : WorkedFaults
 unfolding number_at fault_of

@@ -1,9 +1,10 @@
 -- Codes, a frame and its faults, worked out with another AES and CMAC.
-use Rattle.std.specs.Prelude.{◌≡◌, ℕ, List, [], ◌∷◌, ◌++◌, take, drop, replicate, Some, None}
+use Rattle.std.specs.Prelude.{◌≡◌, ℕ, List, [], ◌∷◌, ◌++◌, ◌*◌, take, drop, map, replicate, Some, None}
+use Rattle.std.specs.List.{range_with_len}
 use Rattle.mc_frames.specs.declared.session.Keys.{Keys}
 use Rattle.mc_frames.specs.declared.fault.FrameFault.TheVariants.{Short, Long, Header, Address, Port, Count, Mic}
 use Rattle.mc_frames.specs.Cmac.{subkey, cmac}
-use Rattle.mc_frames.specs.Frames.{stream_byte, frame_of}
+use Rattle.mc_frames.specs.Frames.{stream_byte, mic, frame_of}
 use Rattle.mc_frames.specs.Opening.{fault_of, fault_without_group}
 
 -- the key of the examples of RFC 4493
@@ -64,12 +65,15 @@ long_ciphered = 0xad ∷ 0x96 ∷ 0x94 ∷ 0xe4 ∷ 0xc0 ∷ 0xc0 ∷ 0x38 ∷ 0
 abbrev pub long_frame : List ℕ
 long_frame = take 9 (worked_frame 0xec) ++ long_ciphered ++ 0xe0 ∷ 0xe5 ∷ 0x56 ∷ 0xd8 ∷ []
 
--- address 11223344, count 65,537, port 201, payload abcd; the same with FCtrl 10; a payload of three blocks; and of count
+-- address 11223344, count 65,537, port 201, payload abcd; the same with FCtrl 10; a payload of three blocks; with which byte the
+-- first of each block of the longest payload is encrypted, and the MIC of the longest message, of bytes 0 to 250; and of count
 -- 01020304 the byte with which the 17th of a payload is encrypted
 pub record WorkedFrames : Type 0 where
   pub frame : frame_of worked_keys 0x11223344 0x00 65537 201 (0xab ∷ 0xcd ∷ []) ≡ worked_frame 0xec
   pub pending : frame_of worked_keys 0x11223344 0x10 65537 201 (0xab ∷ 0xcd ∷ []) ≡ pending_frame
   pub long : frame_of worked_keys 0x11223344 0x00 65537 201 long_payload ≡ long_frame
+  pub blocks : map (λ b. stream_byte worked_keys.app_s 0x11223344 65537 (16 * b)) (range_with_len 0 16) ≡ 0xad ∷ 0xe8 ∷ 0xad ∷ 0xde ∷ 0x65 ∷ 0x68 ∷ 0x35 ∷ 0x7b ∷ 0x0f ∷ 0x9f ∷ 0x37 ∷ 0x4d ∷ 0xec ∷ 0xc1 ∷ 0xc2 ∷ 0x37 ∷ []
+  pub longest : mic worked_keys 0x11223344 65537 (range_with_len 0 251) ≡ 0x6e ∷ 0x8f ∷ 0x95 ∷ 0x73 ∷ []
   pub second_block : stream_byte worked_keys.app_s 0x11223344 0x01020304 16 ≡ 0xd3
 
 -- heard with counts from 2 to below 70,000, or others
@@ -87,6 +91,9 @@ pub record WorkedOrder : Type 0 where
   pub shortest : fault_of worked_keys 0x11223344 2 70000 (replicate 13 0) ≡ Some Header
   pub long : fault_of worked_keys 0x11223344 2 70000 (replicate 256 0) ≡ Some Long
   pub longest : fault_of worked_keys 0x11223344 2 70000 (replicate 255 0) ≡ Some Header
+  pub options : fault_of worked_keys 0x11223344 2 70000 (frame_with 0x01) ≡ Some Header
+  pub most_options : fault_of worked_keys 0x11223344 2 70000 (frame_with 0x0f) ≡ Some Header
+  pub pending_options : fault_of worked_keys 0x11223344 2 70000 (frame_with 0x11) ≡ Some Header
   pub ack : fault_of worked_keys 0x11223344 2 70000 (frame_with 0x20) ≡ Some Header
   pub reserved : fault_of worked_keys 0x11223344 2 70000 (frame_with 0x40) ≡ Some Header
   pub adr : fault_of worked_keys 0x11223344 2 70000 (frame_with 0x80) ≡ Some Header

@@ -45,7 +45,7 @@ use Rattle.pair_run.specs.PairMaking.{after_target}
 use Rattle.pair_run.specs.Targets.{target_of}
 use Rattle.pair_run.specs.PairScript.{after_pair_line, read_pair_line, read_pair_lines, campaigns_of}
 use Rattle.pair_run.specs.PairReport.{pair_parts, pair_report_of}
-use Rattle.pair_run.specs.WorkedTwo.{ArePairsReported, ArePairsSessions, ArePairsRefused}
+use Rattle.pair_run.specs.WorkedTwo.{ArePairsReported, ArePairsSessions, ArePairsRefused, AreTargets}
 
 pub reported_so : ArePairsReported
 unfolding campaigns_of read_pair_lines read_pair_line after_pair_line pair_form_of common_cause pair_cause_of after_target target_of pair_parts pair_report_of digits int_wrap campaign_of read_lines read_line cause_of form_cause in_range after_form with_device report_of device_parts view_of lines_of words_of word decimal_of key_of hex_number_of hex_bytes_of decode_pairs form_of next_fragment after_fragment status_to_all after_status_to_all request_of request_at is_for lowest_of highest_of further format_of firmware_of number_at uplink_step read_uplink reading_of read_from command_at named_at stop_at is_known sync.is_known sync.samples cast.is_known cast.samples clock_up clock_down firmware_up firmware_down fragment_up fragment_down group_up group_down stage_after_all stage_after time_answer delivery heard_delivery read_delivery message_delivery after_due_reboot after_migration after_raise after_swap hears after_commands step command_step after_answers answer_step version_step waking time_asking radio brought fault_without_group drop_cause session_cause excludes fragment_step data_of pieces_of line_of pieces_at xor_bytes xor_all
@@ -58,3 +58,6 @@ sessions_so = search
 pub refused_so : ArePairsRefused
 unfolding campaigns_of read_pair_lines read_pair_line after_pair_line pair_form_of common_cause pair_cause_of after_target target_of pair_parts pair_report_of digits int_wrap campaign_of read_lines read_line cause_of form_cause in_range after_form with_device report_of device_parts view_of lines_of words_of word decimal_of key_of hex_number_of hex_bytes_of decode_pairs form_of next_fragment after_fragment status_to_all after_status_to_all request_of request_at is_for lowest_of highest_of further format_of firmware_of number_at uplink_step read_uplink reading_of read_from command_at named_at stop_at is_known sync.is_known sync.samples cast.is_known cast.samples clock_up clock_down firmware_up firmware_down fragment_up fragment_down group_up group_down stage_after_all stage_after time_answer delivery heard_delivery read_delivery message_delivery after_due_reboot after_migration after_raise after_swap hears after_commands step command_step after_answers answer_step version_step waking time_asking radio brought fault_without_group
 refused_so = search
+
+pub targets_so : AreTargets
+targets_so = search

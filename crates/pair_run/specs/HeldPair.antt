@@ -18,6 +18,7 @@ use Rattle.pair_run.specs.PairCauses.{pair_cause_of, pair_form_cause, target_in}
 use Rattle.pair_run.specs.PairScript.{after_pair_line, pair_end}
 use Rattle.pair_run.specs.PairReport.{pair_report_of}
 
+-- both campaigns as they are held, and whose device is whose
 pub record HeldPair : Type 0 where
   pub a : HeldWorld
   pub b : HeldWorld

@@ -81,12 +81,14 @@ abbrev pub may_cross : Way → Option SentPayload → Bool
 may_cross by None = false
 may_cross by (Some sent) = is_none sent.receiver && goes_by by sent
 
+-- a payload of one campaign's server at a device of the other: the device is there, the payload was sent to all
 abbrev pub crossing_cause : Way → (from to : WorldState) → (number device : ℕ) → Option LineWhy
 crossing_cause by from to number device =
     if not (is_device (length to.devices) device) then Some why.Device
     else if not (may_cross by (numbered from.sent number)) then Some why.Unsent
     else None
 
+-- the cause of campaign a counts first
 abbrev pub first_of : Option LineWhy → Option LineWhy → Option LineWhy
 first_of None second = second
 first_of (Some cause) second = Some cause
@@ -94,6 +96,7 @@ first_of (Some cause) second = Some cause
 abbrev pub both_cause : PairState → Form → Option LineWhy
 both_cause pair f = first_of (form_cause pair.a f) (form_cause pair.b f)
 
+-- a line that both hear is refused where either refuses it
 abbrev pub target_cause : PairState → Target → Option LineWhy
 target_cause pair Header = both_cause pair form.Header
 target_cause pair (At time) = both_cause pair (form.At time)

@@ -18,6 +18,7 @@ abbrev pub form_to : Campaign → PairState → Option PairForm → Line
 form_to x pair None = Err why.Syntax
 form_to x pair (Some pair_form) = Ok (said_to x pair (target_in pair pair_form))
 
+-- what a line of the script says to one of the two
 abbrev pub line_to : Campaign → PairState → (line : List ℕ) → Line
 line_to x pair line = form_to x pair (pair_form_of line)
 

@@ -40,6 +40,7 @@ abbrev pub joined : Campaign → Form → List Owner
 joined x (form.Device dev) = record { campaign = x; number = dev.id } ∷ []
 joined x f = []
 
+-- the devices that a line adds: one, or none
 abbrev pub newcomers : Target → List Owner
 newcomers (One x f) = joined x f
 newcomers target = []

@@ -24,6 +24,7 @@ abbrev pub pair_image_text : (cut : List ℕ) → (padding parity index : ℕ) �
 pair_image_text cut padding parity index =
     cut ⧺ codes " padding " ⧺ decimal padding ⧺ codes " parity " ⧺ decimal parity ⧺ codes " index " ⧺ decimal index ⧺ codes "\n"
 
+-- of each campaign its image and how it is cut, with its index
 abbrev pub pair_image_line : Campaign → ServerState → List ℕ
 pair_image_line x server =
     let size = length server.image in
@@ -44,6 +45,7 @@ unfoldable pub pair_parts : PairState → (id : ℕ) → List Owner → List ℕ
 pair_parts pair id [] = []
 pair_parts pair id (owner ∷ owners) = part_of pair id owner ⧺ pair_parts pair (id + 1) owners
 
+-- the report: both images, and all devices by their IDs
 unfoldable pub pair_report_of : PairState → List ℕ
 pair_report_of pair =
     codes "fuota report 2\n" ⧺ pair_image_line campaign.A pair.a.server ⧺ pair_image_line campaign.B pair.b.server

@@ -24,6 +24,7 @@ abbrev pub pair_line_result : PairState → (line : List ℕ) → Option LineWhy
 pair_line_result pair line None = Ok (after_pair_line pair line)
 pair_line_result pair line (Some cause) = Err (record { line = pair.a.lines + 1; why = cause })
 
+-- both after a line, or the line's fault
 unfoldable pub read_pair_line : PairState → (line : List ℕ) → Result PairState LineFault
 read_pair_line pair line = pair_line_result pair line (pair_cause_of pair line)
 
@@ -37,6 +38,7 @@ read_pair_lines (Ok pair) (line ∷ lines) = read_pair_lines (read_pair_line pai
 abbrev pub pair_has_ended : PairState → Bool
 pair_has_ended pair = has_ended pair.a.section && has_ended pair.b.section
 
+-- whether both ended; the next line is the one that is missing
 abbrev pub pair_end : Result PairState LineFault → Result PairState LineFault
 pair_end (Err fault) = Err fault
 pair_end (Ok pair) =

@@ -36,6 +36,7 @@ abbrev pub carried_form : Way → (number device word : ℕ) → Form
 carried_form way.Downlink number device word = form.Down number device word
 carried_form way.Air number device word = form.Air number device word
 
+-- a payload goes to a device of its own campaign, or across
 abbrev pub carried_target : Campaign → Way → (number word : ℕ) → Owner → Target
 carried_target x by number word owner =
     if is_same owner.campaign x then One x (carried_form by number owner.number word)
@@ -71,6 +72,7 @@ abbrev pub count_of : (count_a count_b : ℕ) → Campaign → ℕ
 count_of count_a count_b campaign.A = count_a
 count_of count_a count_b campaign.B = count_b
 
+-- a line names a campaign or none
 abbrev pub target_for : List Owner → (count_a count_b : ℕ) → Option Campaign → Form → Target
 target_for owners count_a count_b None f = common_target owners f
 target_for owners count_a count_b (Some x) f = named_target owners (count_of count_a count_b x) x f

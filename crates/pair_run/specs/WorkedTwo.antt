@@ -1,11 +1,20 @@
 -- Two campaigns worked out: their reports, and the first refused lines of scripts.
-use Rattle.std.specs.Prelude.{◌≡◌, ℕ, List, [], ◌++◌, replicate, codes, Some, None, Result, Ok, Err}
+use Rattle.std.specs.Prelude.{◌≡◌, ℕ, List, [], ◌∷◌, ◌++◌, replicate, codes, Some, None, Result, Ok, Err}
 use Rattle.image_slots.specs.WorkedImages.{worked_image, ranged_image}
+use Rattle.package_grammar.specs.declared.downlink.To.TheVariants.{Unicast}
+use Rattle.package_grammar.specs.declared.downlink.Downlink.{Downlink}
+use Rattle.script_lines.specs.declared.forms.Campaign.TheVariants as campaign
+use Rattle.script_lines.specs.declared.forms.Form.TheVariants as form
 use Rattle.script_lines.specs.Lines.{lines_of}
 use Rattle.report_lines.specs.declared.faults.LineFault.{LineFault}
 use Rattle.report_lines.specs.declared.faults.LineWhy.{LineWhy}
 use Rattle.report_lines.specs.declared.faults.LineWhy.TheVariants as why
+use Rattle.campaign_world.specs.Said.{Reached}
+use Rattle.pair_run.specs.declared.owners.Owner.{Owner}
+use Rattle.pair_run.specs.declared.targets.Way.TheVariants as way
 use Rattle.pair_run.specs.Pair.{PairState, first_pair}
+use Rattle.pair_run.specs.Targets.{One, Across, Nobody, common_target, named_target}
+use Rattle.pair_run.specs.PairMaking.{reached_by}
 use Rattle.pair_run.specs.PairCauses.{first_of, pair_cause_of}
 use Rattle.pair_run.specs.PairScript.{read_pair_lines, campaigns_in}
 use Rattle.pair_run.specs.PairReport.{pair_report_of}
@@ -133,3 +142,25 @@ pub record ArePairsRefused : Type 0 where
   pub last_line : pair_cause_of (lines_of_both 19999 19999) (codes "fuota 2") ≡ None
   pub many_lines : pair_cause_of (lines_of_both 20000 19999) (codes "fuota 2") ≡ Some why.Limit
   pub many_lines_of_b : pair_cause_of (lines_of_both 19999 20000) (codes "fuota 2") ≡ Some why.Limit
+
+-- ---- to which campaign a line goes, and what it says there
+
+-- device 1 is of campaign a, and device 2 the first of b
+abbrev pub worked_owners : List Owner
+worked_owners = record { campaign = campaign.A; number = 1 } ∷ record { campaign = campaign.B; number = 1 } ∷ []
+
+abbrev pub worked_down : Downlink
+worked_down = record { to = Unicast; port = 201; payload = 0x00 ∷ [] }
+
+pub record AreTargets : Type 0 where
+  pub wake : common_target worked_owners (form.Wake 2) ≡ One campaign.B (form.Wake 1)
+  pub migrate : common_target worked_owners (form.Migrate 2) ≡ One campaign.B (form.Migrate 1)
+  pub power : common_target worked_owners (form.Power 2) ≡ One campaign.B (form.Power 1)
+  pub ask : common_target worked_owners (form.Ask 1) ≡ One campaign.A (form.Ask 1)
+  pub nobody : common_target worked_owners (form.Ask 3) ≡ Nobody
+  -- payload 5 of a campaign, with the random word 109, at a device of it, and of the other one
+  pub down : named_target worked_owners 2 campaign.B (form.Down 5 2 109) ≡ One campaign.B (form.Down 5 1 109)
+  pub air : named_target worked_owners 2 campaign.B (form.Air 5 2 109) ≡ One campaign.B (form.Air 5 1 109)
+  pub down_across : named_target worked_owners 2 campaign.A (form.Down 5 2 109) ≡ Across campaign.A way.Downlink 5 1 109
+  pub air_across : named_target worked_owners 2 campaign.A (form.Air 5 2 109) ≡ Across campaign.A way.Air 5 1 109
+  pub reached : reached_by 1 109 (Some (record { receiver = None; down = worked_down })) ≡ Reached 1 109 worked_down

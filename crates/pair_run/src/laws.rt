@@ -3,7 +3,7 @@
 ghost use Rattle.pair_run.specs.Counting.{CountersAreUnread};
 ghost use Rattle.pair_run.specs.Crossing.{FramesCrossAsPayloads};
 ghost use Rattle.pair_run.specs.PairLines.{EachReadsItsLines};
-ghost use Rattle.pair_run.specs.WorkedTwo.{ArePairsReported, ArePairsSessions, ArePairsRefused};
+ghost use Rattle.pair_run.specs.WorkedTwo.{ArePairsReported, ArePairsSessions, ArePairsRefused, AreTargets};
 
 /// For any two images and any accepted script, each campaign is the one that its own image, and what the lines say to it, define.
 /// So the laws of one campaign over its lines hold for each.
@@ -24,9 +24,10 @@ pub fn counters_are_unread()
     ensures { CountersAreUnread }
 {}
 
-/// Reports of two campaigns, and the first refused lines of their scripts, worked out.
+/// Reports of two campaigns, the first refused lines of their scripts, and to which of the two each line goes, worked out.
 pub fn worked_two()
     ensures reports { ArePairsReported }
     ensures sessions { ArePairsSessions }
     ensures refused { ArePairsRefused }
+    ensures targets { AreTargets }
 {}

@@ -28,6 +28,7 @@ cause_of fault.Syntax = why.Syntax
 cause_of fault.Range = why.Range
 cause_of fault.Limit = why.Limit
 
+-- a line's fault as the cause for which it is refused
 abbrev pub entry_by : Result Entry EntryFault → Result Entry LineWhy
 entry_by (Ok item) = Ok item
 entry_by (Err cause) = Err (cause_of cause)

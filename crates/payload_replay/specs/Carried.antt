@@ -30,6 +30,7 @@ abbrev pub carried_by : ℕ → Reading → List CarriedCommand
 carried_by n (Err refusal) = []
 carried_by n (Ok commands) = if nat_lt outbox_size (weights commands) then [] else map (carried n) commands
 
+-- the commands of a line's payload, which a device hears on port 201
 abbrev pub carried_in : ℕ → Result (List ℕ) LineWhy → List CarriedCommand
 carried_in n (Err cause) = []
 carried_in n (Ok payload) = carried_by n (reading_of 201 Down payload)

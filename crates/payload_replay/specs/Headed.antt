@@ -12,6 +12,7 @@ use Rattle.report_lines.specs.Lines.{LineReading, Step, TakesLines}
 
 -- ---- the header
 
+-- the rows of a header, at most as many as a device keeps
 abbrev pub rows_by : Option ℕ → Result ℕ LineWhy
 rows_by None = Err why.Syntax
 rows_by (Some rows) = if nat_le rows max_rows then Ok rows else Err why.Range

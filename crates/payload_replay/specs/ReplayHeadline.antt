@@ -38,6 +38,7 @@ pub record IsCarried (lines : List (List ℕ)) (n : ℕ) (c : Command) (line pay
   pub message : IsMessage cs 201 Down payload
   pub among : In c cs
 
+-- a line brings a command, among those of its payload
 abbrev pub Carries : List (List ℕ) → ℕ → Command → Type 0
 Carries lines n c = (line : List ℕ) × (payload : List ℕ) × (cs : List Command) × IsCarried lines n c line payload cs
 

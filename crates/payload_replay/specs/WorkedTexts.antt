@@ -114,6 +114,9 @@ pub record AreCaptures : Type 0 where
   pub heard : is_heard (empty_entry 201 Down) ≡ true
   pub upward : is_heard (empty_entry 201 Up) ≡ false
   pub other_port : is_heard (empty_entry 200 Down) ≡ false
+  pub time_port : is_heard (empty_entry 202 Down) ≡ false
+  pub firmware_port : is_heard (empty_entry 203 Down) ≡ false
+  pub no_package : is_heard (empty_entry 199 Down) ≡ false
   -- what it does not hear leaves it as it is
   pub passed_upward : after_entry 12 (empty_entry 201 Up) worked_device ≡ worked_device
   pub passed : after_entry 12 (empty_entry 200 Down) worked_device ≡ worked_device

@@ -28,6 +28,7 @@ request_word Image = codes "image"
 request_word Reboot = codes "reboot"
 request_word Check = codes "check"
 
+-- a stage as a report has it: refused with what was asked, and the bits of the answer
 abbrev pub stage_text : Stage → List ℕ
 stage_text (At request) = request_word request
 stage_text Updated = codes "updated"

@@ -15,6 +15,7 @@ pub data ToldFile : Type 0 where
   same : (image : List ℕ) → ToldFile
   whole : ToldFile
 
+-- whether the file is the image
 abbrev pub same_word : Bool → List ℕ
 same_word true = codes " same"
 same_word false = codes " other"

@@ -1,4 +1,4 @@
-use Rattle.campaign_laws.proofs.WorkedCampaigns.{reported_so, refused_so, causes_so, sessions_so, counted_so, planned_so}
+use Rattle.campaign_laws.proofs.WorkedCampaigns.{reported_so, refused_so, causes_so, sessions_so, counted_so, planned_so, events_so}
 use Rattle.campaign_laws.proofs.laws.worked_campaigns.Goals as goal
 
 pub returns-clause-reported : goal.returns-clause-reported
@@ -18,3 +18,6 @@ returns-clause-counted c = counted_so
 
 pub returns-clause-planned : goal.returns-clause-planned
 returns-clause-planned c = planned_so
+
+pub returns-clause-events : goal.returns-clause-events
+returns-clause-events c = events_so
