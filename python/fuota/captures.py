@@ -2,6 +2,7 @@
 import argparse
 import json
 import pathlib
+import re
 import sys
 from collections import Counter
 from collections.abc import Iterator
@@ -33,6 +34,16 @@ LEFT_OUT = {
     "empty list": "empty lists",
     "empty line": "empty lines",
 }
+
+
+# What a line that is no JSON often is, by how it begins, and what makes lines of JSON of it.
+STRANGE = (
+    (re.compile(rb"\x1f\x8b"), "it is compressed by gzip; zcat writes what is in it"),
+    (re.compile(rb"\s*[\[{]\s*$|\s+\S"), "a part of an object over several lines; jq -c . writes each on a line"),
+    (re.compile(rb"[^\s{]*/[^\s{]* [\[{]"), "a topic is before the object; mosquitto_sub without -v leaves it out"),
+    (re.compile(rb"[^{\[]+(\[\d+\])?: [\[{]"), "words are before the object; journalctl -o cat leaves a journal's out"),
+)
+AN_ARRAY = "not a JSON object, but an array; jq -c '.[]' writes each of its objects on a line"
 
 
 @dataclass(frozen=True)
@@ -145,9 +156,10 @@ class Log:
         try:
             members = json.loads(line.decode("utf-8-sig"))
         except (ValueError, RecursionError) as why:
-            raise Wrong(f"not JSON: {why}") from None
+            known = next((words for form, words in STRANGE if form.match(line)), why)
+            raise Wrong(f"not JSON: {known}") from None
         if not isinstance(members, dict):
-            raise Wrong("not a JSON object")
+            raise Wrong(AN_ARRAY if isinstance(members, list) else "not a JSON object")
         for message in messages_of(members):
             self.take(message)
 

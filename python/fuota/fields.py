@@ -16,11 +16,14 @@ import tomllib
 from collections.abc import Callable
 from dataclasses import dataclass
 from typing import Any, TypeVar
+from urllib.parse import urlsplit
 
+from . import files
 from .errors import Wrong
 
 T = TypeVar("T")
 Reader = Callable[[Any], Any]
+KEY_DIGITS = 32
 
 
 @dataclass(frozen=True)
@@ -91,11 +94,10 @@ def value_of(field: Any, place: Place, name: str, value: Any) -> Any:
     return place.file.parent / made if isinstance(made, pathlib.Path) else made
 
 
-def read_file(path: pathlib.Path) -> dict[str, Any]:
-    """What a file in TOML has."""
+def read_file(path: pathlib.Path, is_private: bool = False) -> dict[str, Any]:
+    """What a file in TOML has, which is private where it has a secret."""
     try:
-        with open(path, "rb") as handle:
-            return tomllib.load(handle)
+        return tomllib.loads(files.read(path, is_private=is_private).decode())
     except OSError as why:
         raise Wrong(f"{path}: {why.strerror}") from None
     except (tomllib.TOMLDecodeError, UnicodeDecodeError) as why:
@@ -115,6 +117,13 @@ def a(kind: Any, what: str) -> Reader:
 
 
 text, truth, raw_table = a(str, "text"), a(bool, "truth value"), a(dict, "table")
+
+
+def secret(value: Any) -> Any:
+    """Reads a text that no message has."""
+    if not isinstance(value, str):
+        raise ValueError("not a text")
+    return value
 
 
 def number(lowest: float, highest: float) -> Reader:
@@ -142,8 +151,11 @@ def seconds(lowest: float, highest: float) -> Reader:
 
 def digits(count: int) -> Reader:
     """Reads hex digits, of a number that is fixed, as bytes."""
+    # (so many are a key)
+    reader = secret if count == KEY_DIGITS else a(str, "text of hex digits")
+
     def read(value: Any) -> bytes:
-        other = re.search("[^0-9A-Fa-f]", a(str, "text of hex digits")(value))
+        other = re.search("[^0-9A-Fa-f]", reader(value))
         if other:
             raise ValueError(f"not a hex digit: {other.group()!r}")
         if len(value) != count:
@@ -177,8 +189,11 @@ def choice(*names: str) -> Reader:
 
 def url(value: Any) -> Any:
     """Reads the address of a server, without a slash at its end."""
-    if not re.fullmatch(r"https?://[^\s/]+(/\S*)?", text(value)):
+    if not re.fullmatch(r"https?://[^\s/@?#]+(/[^\s?#]*)?", text(value)):
         raise ValueError(f"not an address, as http://localhost:8090: {value!r:.40}")
+    parts = urlsplit(value)
+    if not parts.hostname or parts.port == 0:
+        raise ValueError(f"no host, or port 0: {value!r:.40}")
     return value.rstrip("/")
 
 
@@ -191,4 +206,8 @@ def moment(value: Any) -> int:
     """Reads a moment with its offset, as ms of Unix time."""
     if not isinstance(value, datetime.datetime) or value.tzinfo is None:
         raise ValueError(f"not a moment with its offset, as 2031-05-06T22:00:00Z: {value!s:.40}")
+    try:
+        value.astimezone(datetime.timezone.utc)
+    except OverflowError:
+        raise ValueError(f"not within the years 1 to 9999: {value!s:.40}") from None
     return round(value.timestamp()) * 1000

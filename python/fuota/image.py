@@ -6,7 +6,7 @@ import struct
 import sys
 from dataclasses import dataclass
 
-from . import words
+from . import files, words
 from .errors import Wrong
 from .limits import MAX_IMAGE
 
@@ -61,8 +61,7 @@ def read(data: bytes) -> Image:
 
 def load(path: pathlib.Path) -> Image:
     """The image of a file."""
-    with open(path, "rb") as handle:
-        data = handle.read(MAX_IMAGE + 1)
+    data = files.read(path, MAX_IMAGE + 1)
     try:
         return read(data)
     except Wrong as why:

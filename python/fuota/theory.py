@@ -5,6 +5,7 @@ from dataclasses import dataclass
 
 from .errors import Wrong
 from .limits import MAX_CODED, MAX_PIECES
+from .regions import Rate
 
 
 @dataclass(frozen=True)
@@ -92,24 +93,21 @@ def mean_beyond(columns: int) -> float:
     return math.fsum(1 / (2 ** i - 1) for i in range(1, columns + 1))
 
 
-# ---- Air time, in EU868
+# ---- Air time
 
-# The spreading factor and the bandwidth in kHz of a data rate, and the bytes of payload that it carries.
-DATA_RATES = {0: (12, 125, 51), 1: (11, 125, 51), 2: (10, 125, 51), 3: (9, 125, 115), 4: (8, 125, 242), 5: (7, 125, 242),
-              6: (7, 250, 242)}
 # Bytes of a frame beside its payload: MHDR, FHDR without options, FPort, MIC.
 FRAME = 13
 # Bytes of a fragment beside its piece.
 FRAGMENT_HEAD = 3
 
 
-def air_time(data_rate: int, length: int) -> float:
+def air_time(rate: Rate, length: int) -> float:
     """The ms that a downlink of so many bytes, its frame in all, is on the air: LoRa with 8 symbols of preamble, explicit
     header, coding rate 4/5 and no CRC."""
-    factor, bandwidth, _ = DATA_RATES[data_rate]
-    slow = factor >= 11 and bandwidth == 125
-    blocks = max(0, math.ceil((8 * length - 4 * factor + 28) / (4 * (factor - 2 * slow))))
-    return (8 + 4.25 + 8 + 5 * blocks) * 2.0 ** factor / bandwidth
+    symbol = 2.0 ** rate.factor / rate.bandwidth
+    # (from 16 ms on symbols carry two bits less)
+    blocks = max(0, math.ceil((8 * length - 4 * rate.factor + 28) / (4 * (rate.factor - 2 * (symbol >= 16)))))
+    return (8 + 4.25 + 8 + 5 * blocks) * symbol
 
 
 def time_of(fragments: int, distance: float, air: float) -> float:

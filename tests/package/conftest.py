@@ -4,6 +4,7 @@ import importlib
 import io
 import os
 import pathlib
+import tempfile
 import tomllib
 from dataclasses import dataclass
 
@@ -39,6 +40,13 @@ def file_device(request):
 def library(request, tmp_path_factory):
     """The path of libfuota.so."""
     return common.library_of(request.config.getoption("library"), tmp_path_factory.mktemp("library"))
+
+
+@pytest.fixture
+def place():
+    """A folder in memory where there is such a place: files are put in the place of others a hundred thousand times."""
+    with tempfile.TemporaryDirectory(dir="/dev/shm" if os.access("/dev/shm", os.W_OK) else None) as folder:
+        yield pathlib.Path(folder)
 
 
 @dataclass

@@ -56,7 +56,7 @@ def devices_of(classes):
 
 DEVICES = devices_of("ACA")
 # When a simulated campaign begins, in ms of Unix time: so many s before its window.
-BEGIN = 1_935_871_200_000 - 600_000
+BEGIN = 1_935_871_200_000 - 1_000_000
 
 
 def image_file(body, version=VERSION):
@@ -72,6 +72,7 @@ def laid_out(folder, text=PLAN, devices=DEVICES):
     folder.mkdir(exist_ok=True)
     (folder / "image").write_bytes(IMAGE)
     (folder / "plan.toml").write_text(text + devices)
+    (folder / "plan.toml").chmod(0o600)
     return folder
 
 
@@ -90,7 +91,7 @@ class Played:
     def __init__(self, folder, library, seed, loss=0.1):
         self.folder, self.t, self.pending, self.library = folder, BEGIN, [], library
         self.fleet = Fleet(read_plan(folder / "plan.toml"), library, BEGIN, 60_000, loss, seed)
-        self.counts, self.numbers, self.faults, self.sent, self.updated = [], [], [], 0, set()
+        self.counts, self.numbers, self.faults, self.sent, self.updated, self.kills = [], [], [], 0, set(), 0
 
     def life(self, process):
         """Plays with a process until it ends."""
@@ -102,7 +103,9 @@ class Played:
         except Ended:
             pass
         self.pending = []
-        return process.end()
+        status = process.end()
+        self.kills += status == -signal.SIGKILL
+        return status
 
     def kept(self):
         """How many fragments were taken from the server that is kept, and the stage of each device."""
@@ -142,10 +145,9 @@ class Played:
         way = "count" in line
         if "air" not in line:
             return
-        if line["sent"] != "answer":
-            last = before.get(way, (0, 0))
-            if line["t"] < max(last[0] + 10 * last[1] - 10, max([0, *(t + 1000 for t, _ in before.values())])):
-                self.faults.append(f"too early: {line}")
+        last = before.get(way, (0, 0))
+        if line["t"] < max(last[0] + 10 * last[1] - 10, max([0, *(t + 1000 for t, _ in before.values())])):
+            self.faults.append(f"too early: {line}")
         if way and not 1_935_871_202_000 <= line["t"] < 1_935_871_200_000 + 1_024_000 - 2_000:
             self.faults.append(f"beside the window: {line}")
         before[way] = line["t"], line["air"]
@@ -180,6 +182,9 @@ class Played:
             self.faults.append(f"counts {self.counts}")
         if self.numbers != sorted(set(self.numbers)):
             self.faults.append(f"fragments {self.numbers}")
+        # (a kill between what is noted and what goes out loses that)
+        if not self.counts and len(self.numbers) < history.fragments * len(history.contacts) - self.kills:
+            self.faults.append(f"{len(self.numbers)} copies after {self.kills} kills")
         if final is not None and settled(kept) != settled(final):
             self.faults.append(f"state {kept.hex()} in place of {final.hex()}")
         return "; ".join(self.faults[:3]) or None

@@ -25,18 +25,11 @@ from xml.etree import ElementTree
 import pytest
 
 import fuota
-from fuota.campaign import carrier, play, progress
+from fuota.campaign import carrier, heard, play, progress
 from fuota.campaign.folder import Folder
 from fuota.campaign.plan import read_plan
 from lives import (BEGIN, BY_UNICAST, EUIS, IMAGE, PLAN, TOOL, Played, Process, child_life, devices_of, image_file, laid_out,
                    process_life)
-
-
-@pytest.fixture
-def place():
-    """A folder in memory where there is such a place: files are put in the place of others a hundred thousand times."""
-    with tempfile.TemporaryDirectory(dir="/dev/shm" if os.access("/dev/shm", os.W_OK) else None) as folder:
-        yield pathlib.Path(folder)
 
 
 @pytest.fixture
@@ -212,9 +205,9 @@ def test_status_of_nothing(call):
     (2, 201, "0108000200", 0), (None, 201, "0108400200", 0), (3, 201, "000301020001ff3f0301", 0), (None, 200, "0108000200", 0),
     (None, 201, "010800", 0), (None, 201, "ff", 0), (None, 201, "", 0), (2, 201, "0108400200", 1)],
     ids=["docs", "another index", "after others", "another port", "cut", "strange", "none", "index 1"])
-def test_missing(wanted, port, payload, index):
+def test_missing(library, wanted, port, payload, index):
     """What is read of a status answer: of its own index, after other answers, and of nothing else."""
-    assert play.missing_in(port, bytes.fromhex(payload), index) == wanted
+    assert heard.missing_in(heard.texts_of(fuota.Library(library), port, bytes.fromhex(payload)), index) == wanted
 
 
 STRANGE = [{"device": "ffffffffffffffff", "port": 203, "payload": "010700000001000000"},
@@ -240,7 +233,7 @@ def test_strange_uplinks(begun, library):
     process.write({"time": BEGIN})
     status = played.life(process)
     assert stages == ["version"] * 3
-    assert process.said.count("fuota-campaign: passed over: ") == 9
+    assert process.said.count("fuota-campaign: passed over: ") == 10
     is_well(played, status)
 
 
@@ -287,7 +280,7 @@ def test_silence(begun, library):
     status, said = process_life(played, library)
     # (what was put into the queue of a device of class A waits there, and is not put there again)
     assert (status, played.sent) == (3, 1 + 3 + 1)
-    assert said.endswith(": silent 3; fragments 0 of 26\n")
+    assert said.endswith(": silent 3 (at version); fragments 0 of 26\n")
     assert (process_life(played, library)[0], played.sent) == (3, 5)
 
 
@@ -305,7 +298,7 @@ def test_silence_killed(begun, library, call):
     (played.folder / "plan.toml").write_text(text.replace("tries = 3", "tries = 4"))
     assert (process_life(played, library)[0], played.sent) == (3, sent + 3)
     done = call("fuota-campaign", "status", "state", folder=played.folder)
-    assert done.said.count("version, silent          -  -") == 3
+    assert len(re.findall("version, silent           -  -  +at version, after 4 tries, since 2031", done.said)) == 3
 
 
 def test_incomplete(begun, library, call):
@@ -315,7 +308,7 @@ def test_incomplete(begun, library, call):
     played.fleet.to_group = lambda t, count, port, payload: None if count == 103 else lose(t, count, port, payload)
     status, said = process_life(played, library)
     journal = (played.folder / "state" / "journal").read_text()
-    assert status == 3 and said.endswith(": incomplete 3; fragments 6 of 6\n")
+    assert status == 3 and re.search(r": incomplete 3 \([1-6] missing(; [1-6] missing)*\); fragments 6 of 6\n$", said)
     assert all(2 <= journal.count(f'"stage":"status","device":"{eui}"') <= 12 for eui in EUIS)
     done = call("fuota-campaign", "status", "state", folder=played.folder)
     assert len(re.findall("status, incomplete +[1-6]  ", done.said)) == 3
@@ -449,9 +442,10 @@ class Terminal(io.StringIO):
 class Stub:
     """A campaign of which two devices are updated, some ms after the year 1970 began."""
 
-    def __init__(self, now, left=0):
+    def __init__(self, now, left=0, away=None):
         self.carrier, self.left, self.sent = self, lambda: left, 3
-        self.now, self.counts = lambda: now, lambda: {"status": 1, "updated": 2}
+        self.now, self.contacts = lambda: now, [types.SimpleNamespace(word=word, cause=None) for word in ("updated", "status", "updated")]
+        self.away_since = lambda: away
         self.plan = types.SimpleNamespace(fragments=9)
 
 
@@ -478,6 +472,12 @@ def test_progress_elsewhere():
     assert shown_on(io.StringIO()).splitlines() == [
         f"1970-01-01 00:00:00 UTC: {WORDS}, 1 min 10 s left", f"1970-01-01 00:01:00 UTC: {WORDS}, 11 s left",
         f"1970-01-01 00:01:02 UTC: {WORDS}"]
+
+
+def test_progress_without_a_broker():
+    stream = io.StringIO()
+    progress.Progress(stream).show(Stub(120_000, away=65_000), is_last=True)
+    assert stream.getvalue() == f"1970-01-01 00:02:00 UTC: {WORDS}; broker away since 00:01:05 UTC\n"
 
 
 def test_rehearsals(call, place, library):

@@ -6,6 +6,7 @@ the page of tools/web_page makes the same, where node is installed: its module w
 """
 import base64
 import copy
+import gzip
 import json
 import math
 import random
@@ -303,7 +304,7 @@ def make(call, page, tmp_path, monkeypatch):
 
 def without_reason(message):
     """What is said, without the command and the file, and without the words of one reader of JSON or the other."""
-    return re.sub("(?<=not JSON: ).*", "", re.sub("^fuota-capture: (log: )?", "", message)).strip()
+    return re.sub("(?<=not JSON: ).*|(?<=not a JSON object), but .*", "", re.sub("^fuota-capture: (log: )?", "", message)).strip()
 
 
 @pytest.fixture
@@ -468,6 +469,29 @@ def test_files(make, words, place):
 @pytest.mark.parametrize("word", ["--device EUI", "multicast queue item", "None was tried against a live server"])
 def test_help(call, word):
     assert word in call("fuota-capture", "--help").said
+
+
+LINE = b'{"deviceInfo":{"devEui":"0102030405060708"},"fPort":201,"data":"AgA="}'
+
+
+@pytest.mark.parametrize("log, words", [
+    (gzip.compress(LINE), "line 1: not JSON: it is compressed by gzip; zcat writes what is in it"),
+    (LINE.replace(b'{"dev', b'{\n  "dev', 1), "line 1: not JSON: a part of an object over several lines; jq -c . writes each on a line"),
+    (LINE + b"\n  }", "line 2: not JSON: a part of an object over several lines; jq -c . writes each on a line"),
+    (b"[\n" + LINE + b"\n]", "line 1: not JSON: a part of an object over several lines; jq -c . writes each on a line"),
+    (b"application/1/device/0102030405060708/event/up " + LINE,
+     "line 1: not JSON: a topic is before the object; mosquitto_sub without -v leaves it out"),
+    (b"v3/a@t/devices/meter-1/up " + LINE, "line 1: not JSON: a topic is before the object; mosquitto_sub without -v leaves it out"),
+    (b"Dec 02 10:00:00 host app[123]: " + LINE,
+     "line 1: not JSON: words are before the object; journalctl -o cat leaves a journal's out"),
+    (b"Dec 02 10:00:00 host app: " + LINE, "line 1: not JSON: words are before the object; journalctl -o cat leaves a journal's out"),
+    (b"[" + LINE + b"]", "line 1: not a JSON object, but an array; jq -c '.[]' writes each of its objects on a line"),
+    (b"7", "line 1: not a JSON object")], ids=range(10))
+def test_lines_that_are_none(call, tmp_path, log, words):
+    """A line that is no object of JSON is named as what it is."""
+    (tmp_path / "log").write_bytes(log)
+    done = call("fuota-capture", "0", "log", "capture")
+    assert (done.status, done.message) == (2, f"fuota-capture: log: {words}\n")
 
 
 def test_page_was_asked(page):

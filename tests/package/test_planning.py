@@ -15,7 +15,7 @@ from xml.etree import ElementTree
 import pytest
 
 from common import TOP
-from fuota import image, theory
+from fuota import image, regions, theory
 from fuota.planning import played
 
 MAX_LINES = 20_000
@@ -62,7 +62,7 @@ def test_shares_by_hand():
 @pytest.mark.parametrize("rate, length, symbols, one", [(5, 20, 50.25, 1.024), (0, 51, 70.25, 32.768), (0, 64, 85.25, 32.768),
                                                         (1, 13, 35.25, 16.384), (6, 20, 50.25, 0.512)])
 def test_air_time(rate, length, symbols, one):
-    assert theory.air_time(rate, length) == near(symbols * one, 1e-9)
+    assert theory.air_time(regions.REGIONS["EU868"].rates[rate], length) == near(symbols * one, 1e-9)
 
 
 @pytest.mark.parametrize("fits, ms", [(0, 9), (1, 10), (1, 109), (2, 110), (2, 209), (3, 210)])

@@ -52,14 +52,19 @@ FIELDS = [
     ('class = "C"', 'class = "C"\nperiodicity = 1', "window.periodicity: only a window of class B has one"),
     ("22:00:00Z", "22:00:00", "window.start: not a moment with its offset, as 2031-05-06T22:00:00Z: 2031-05-06 22:00:00"),
     ("2031-05", "1979-05", "window.start: 1979-05-06 22:00:00 UTC is not within the 32 bits of GPS time"),
+    ("2031-05-06T22:00:00Z", "0001-01-01T00:00:00+14:00", "window.start: not within the years 1 to 9999: 0001-01-01 00:00:00+14:00"),
+    ("2031-05-06T22:00:00Z", "9999-12-31T23:59:59-14:00", "window.start: not within the years 1 to 9999: 9999-12-31 23:59:59-14:00"),
     ("timeout = 10", "timeout = 16", "window.timeout: 16 is not from 0 to 15"),
     ("869525000", "869.525", "window.frequency: not a whole number: 869.525"),
+    ("869525000", "923300000", "window.frequency: 923.3 MHz is not from 863 to 870 MHz, the frequencies of EU868"),
+    ('image = "image"', 'image = "image"\nregion = "EU433"', "region: 'EU433' is not one of EU868, US915, AU915, AS923, KR920, IN865, RU864"),
+    ('image = "image"', 'image = "image"\nregion = "US915"', "window.data_rate: 3 is not from 8 to 13, the data rates of downlinks in US915"),
     ("869525000", "869525001", "window.frequency: 869525001 Hz is not a multiple of 100 Hz"),
-    ("data_rate = 3", "data_rate = 7", "window.data_rate: 7 is not from 0 to 6"),
+    ("data_rate = 3", "data_rate = 7", "window.data_rate: 7 is not from 0 to 6, the data rates of downlinks in EU868"),
     ("data_rate = 3\n[pace]", "data_rate = 3\nguard = -1\n[pace]", "window.guard: -1 is not from 0 to 3600"),
     ("distance = 1\n", "distance = -1\n", "pace.distance: -1 is not from 0 to 86400"),
     ("duty_cycle = 10", "duty_cycle = 0", "pace.duty_cycle: 0 is not from 0.01 to 100"),
-    ("unicast_data_rate = 3", "unicast_data_rate = 9", "pace.unicast_data_rate: 9 is not from 0 to 6"),
+    ("unicast_data_rate = 3", "unicast_data_rate = 9", "pace.unicast_data_rate: 9 is not from 0 to 6, the data rates of downlinks in EU868"),
     ("distance = 60", "distance = 0", "retry.distance: 0 is not from 0.001 to 604800"),
     ("tries = 30", "tries = 0", "retry.tries: 0 is not from 1 to 1000"),
     ("tries = 30", "tries = \"x\"", "retry.tries: not a whole number: 'x'"),
@@ -143,8 +148,8 @@ def test_a_plan_that_does_not_fit(check):
         2, "time: the fragments need 1 min 7 s, the window has 28 s: take another data rate, longer pieces or a longer window")
 
 
-def plan_of(folder, text):
-    return read_plan(laid_out(folder, text) / "plan.toml")
+def plan_of(folder, text, devices=DEVICES):
+    return read_plan(laid_out(folder, text, devices) / "plan.toml")
 
 
 def test_coded_fragments_of_a_loss(tmp_path):
@@ -206,3 +211,58 @@ def test_no_library(call, tmp_path):
     laid_out(tmp_path)
     done = call("fuota-campaign", "run", "plan.toml", "other", "--library", "nowhere.so", "--pipe")
     assert done.status == 2 and done.message.endswith("tools/c_library makes it\n")
+
+
+@pytest.mark.parametrize("text", ["01-02-03-04-05-06-07-08", "01:02:03:04:05:06:07:08", "0102030405060708"])
+def test_euis(tmp_path, text):
+    """As devices' labels and network servers write them."""
+    assert plan_of(tmp_path, PLAN, DEVICES.replace(EUIS[0], text, 1)).devices[0].eui == EUIS[0]
+
+
+@pytest.mark.parametrize("text", ["AQIDBAUGBwg=", "0102-0304-0506-070", "01-02-03-04-05-06-07"])
+def test_no_euis(tmp_path, text):
+    with pytest.raises(Wrong):
+        plan_of(tmp_path, PLAN, DEVICES.replace(EUIS[0], text, 1))
+
+
+@pytest.mark.parametrize("mode, said", [(0o600, []), (0o400, []), (0o640, ["0640"]), (0o604, ["0604"])])
+def test_plans_that_others_may_read(call, tmp_path, mode, said):
+    laid_out(tmp_path)
+    (tmp_path / "plan.toml").chmod(mode)
+    done = call("fuota-campaign", "check", "plan.toml")
+    assert [line for line in done.said.splitlines() if line.startswith("keys")] == [
+        f"keys: others may read plan.toml (mode {one}), and it has keys: chmod 600 plan.toml" for one in said]
+    assert (done.status, done.message) == (0, "")
+
+
+def test_a_plan_that_others_may_read_is_run(tmp_path, library):
+    laid_out(tmp_path)
+    (tmp_path / "plan.toml").chmod(0o644)
+    process = Process(tmp_path, library)
+    assert (process.end(), process.said.splitlines()[0]) == (
+        2, "fuota-campaign: others may read plan.toml (mode 0644), and it has keys: chmod 600 plan.toml")
+
+
+CHIRPSTACK = ('[server]\nkind = "chirpstack"\nhost = "h"\napplication = "a"\nhttp = "http://h"\nmulticast_group = "g"\n'
+              'token_file = "token"\n')
+
+
+@pytest.mark.parametrize("more, message", [("", "server.token_file: token: No such file or directory"),
+                                           ('access_file = "access.toml"\n', "access.toml: No such file or directory")])
+def test_files_of_a_server(check, tmp_path, more, message):
+    """`check` reads what the network server needs beside the plan."""
+    if more:
+        (tmp_path / "token").write_text("a-key")
+        (tmp_path / "token").chmod(0o600)
+    done = check(PLAN + CHIRPSTACK + more)
+    assert (done.status, message in done.message, "a-key" in done.message + done.said) == (2, True, False)
+
+
+@pytest.mark.parametrize("name", ["journal", "state"])
+def test_no_rehearsal_in_a_used_folder(call, tmp_path, library, name):
+    laid_out(tmp_path)
+    (tmp_path / "used").mkdir()
+    (tmp_path / "used" / name).write_text("")
+    done = call("fuota-campaign", "rehearse", "plan.toml", "used", "--library", library)
+    assert (done.status, done.said, done.message) == (
+        2, "", "fuota-campaign: used: a campaign is kept there already, and a rehearsal takes a new folder\n")

@@ -3,31 +3,22 @@
 The command is killed and begun again, and the broker goes away and comes back. What is skipped without mosquitto or paho-mqtt
 is named.
 """
-import base64
-import contextlib
-import http.server
 import json
 import re
 import shutil
-import socket
 import subprocess
-import threading
 import time
 
 import pytest
 
-import fuota
-from fuota.campaign import mqtt, pipe
-from fuota.campaign.carrier import STRANGE
-from fuota.campaign.plan import moment_of, read_plan
-from fuota.campaign.rehearsal import Fleet
+from fuota.campaign import mqtt
 from fuota.errors import Wrong
 from fuota.fields import Place
 from fuota.lns import SERVERS, ChirpStack, Lost, Refusing, ThingsStack, Uplink, read
-from fuota.lns.server import reaches, time_of
-from lives import EUIS, PLAN, TOOL, VERSION, laid_out
+from fuota.lns.server import time_of
+from lives import EUIS, PLAN, TOOL, laid_out
+from networks import GROUP, MOSQUITTO, PASSWORD, USER, Broker, LiveChirpStack, LiveThingsStack, free_port, private, rest_stub
 
-MOSQUITTO = shutil.which("mosquitto") or shutil.which("mosquitto", path="/usr/sbin:/usr/local/sbin")
 try:
     import paho.mqtt.client
     HAS_PAHO = True
@@ -35,197 +26,6 @@ except ModuleNotFoundError:
     HAS_PAHO = False
 over_mqtt = pytest.mark.skipif(not (MOSQUITTO and HAS_PAHO and shutil.which("mosquitto_sub") and shutil.which("mosquitto_pub")),
                                reason="mosquitto, its clients or paho-mqtt are not installed")
-
-
-class Rest(http.server.BaseHTTPRequestHandler):
-    """The queue of a multicast group: it takes what is posted, and counts by itself."""
-
-    def do_POST(self):
-        body = json.loads(self.rfile.read(int(self.headers["Content-Length"])))
-        self.server.posted.append((self.path, self.headers["Grpc-Metadata-Authorization"], body["queueItem"]))
-        answer = json.dumps({"fCnt": self.server.first + len(self.server.posted) - 1}).encode()
-        self.send_response(self.server.status)
-        self.send_header("Content-Length", str(len(answer)))
-        self.end_headers()
-        self.wfile.write(answer)
-
-    def log_message(self, *_):
-        pass
-
-
-@contextlib.contextmanager
-def rest_stub(first=100):
-    """A stub of ChirpStack's REST API, on a port of its own."""
-    server = http.server.ThreadingHTTPServer(("127.0.0.1", 0), Rest)
-    server.posted, server.first, server.status = [], first, 200
-    threading.Thread(target=server.serve_forever, daemon=True).start()
-    try:
-        yield server
-    finally:
-        server.shutdown()
-        server.server_close()
-
-
-def free_port():
-    """A port on loopback that nobody listens on."""
-    with socket.socket() as probe:
-        probe.bind(("127.0.0.1", 0))
-        return probe.getsockname()[1]
-
-
-class Broker:
-    """mosquitto on loopback."""
-
-    def __init__(self, folder, more="allow_anonymous true\n"):
-        self.port, self.file = free_port(), folder / "mosquitto.conf"
-        self.file.write_text(f"listener {self.port} 127.0.0.1\n{more}")
-        self.begin()
-
-    def begin(self):
-        self.process = subprocess.Popen([MOSQUITTO, "-c", self.file], stdout=subprocess.DEVNULL, stderr=subprocess.DEVNULL)
-        for _ in range(100):
-            if reaches("127.0.0.1", self.port):
-                return
-            time.sleep(0.05)
-        raise RuntimeError("mosquitto does not listen")
-
-    def end(self):
-        self.process.kill()
-        self.process.wait()
-
-
-def epoch_text(t):
-    """A moment as TOML has it."""
-    return moment_of(t).replace(" ", "T", 1).replace(" UTC", "Z")
-
-
-LIVE = (PLAN.replace("distance = 60", "distance = 1").replace("distance = 1\nduty_cycle = 10", "distance = 0.1\nduty_cycle = 100")
-        .replace("timeout = 10", "timeout = 4\nguard = 0.2").replace("data_rate = 3", "data_rate = 5"))
-
-
-class Live:
-    """A network server in front of simulated devices, in true time: what the tool publishes comes to them, and what they
-    send is published in the shape of the server."""
-
-    def __init__(self, folder, broker, library, server, lead):
-        begin = time.time_ns() // 1_000_000
-        start = (begin // 1000 + lead) * 1000
-        self.broker, self.counts, self.topics, self.wrong = broker, [], [], []
-        text = LIVE.replace("2031-05-06T22:00:00Z", epoch_text(start)) + server
-        self.folder = laid_out(folder, text)
-        self.fleet = Fleet(read_plan(folder / "plan.toml"), fuota.Library(library), begin + 2_000, 700)
-        self.library = library
-        self.tool = self.run_tool()
-        self.source = subprocess.Popen(["mosquitto_sub", *self.address, "-t", self.down, "-F", "%j"], stdout=subprocess.PIPE)
-        self.lines = pipe.Lines(self.source.stdout.fileno())
-
-    def run_tool(self):
-        return subprocess.Popen([*TOOL, "run", "plan.toml", "state", "--library", self.library], cwd=self.folder,
-                                stdout=subprocess.DEVNULL, stderr=subprocess.PIPE, text=True)
-
-    @property
-    def address(self):
-        return ["-h", "127.0.0.1", "-p", str(self.broker.port)]
-
-    def publish(self, topic, members):
-        subprocess.run(["mosquitto_pub", *self.address, "-q", "1", "-t", topic, "-m", json.dumps(members)],
-                       stderr=subprocess.DEVNULL)
-
-    def pump(self):
-        """Brings what was published to the devices, and publishes what they send."""
-        self.lines.wait(5)
-        now = time.time_ns() // 1_000_000
-        for line in self.lines.take():
-            told = json.loads(line)
-            self.goes_down(now, told["topic"], json.loads(told["payload"]))
-        for uplink in self.fleet.advance(now):
-            self.goes_up(uplink)
-
-    def end(self):
-        self.source.terminate()
-        self.source.wait()
-        self.source.stdout.close()
-        said = self.tool.stderr.read()
-        self.tool.stderr.close()
-        return self.tool.wait(30), said
-
-    def fault(self):
-        status, said = self.end()
-        if status != 0 or set(self.fleet.running()) != {VERSION}:
-            return f"status {status}, {self.fleet.running()} run: {said[-300:]}"
-        if self.wrong or not self.counts or self.counts != sorted(set(self.counts)):
-            return f"counts {self.counts}, wrong {self.wrong}"
-        return None
-
-
-class LiveChirpStack(Live):
-    """ChirpStack v4, with the queue of a group behind the stub of its REST API."""
-
-    down = "application/fleet/device/+/command/down"
-
-    def __init__(self, folder, broker, library, rest, lead=12):
-        self.rest, self.taken = rest, 0
-        server = (f'[server]\nkind = "chirpstack"\nhost = "127.0.0.1"\nport = {broker.port}\napplication = "fleet"\n'
-                  f'http = "http://127.0.0.1:{rest.server_address[1]}"\nmulticast_group = "6f1c1a52"\ntoken_file = "token"\n')
-        super().__init__(folder, broker, library, server, lead)
-
-    def run_tool(self):
-        (self.folder / "token").write_text("secret\n")
-        return super().run_tool()
-
-    def pump(self):
-        super().pump()
-        now = time.time_ns() // 1_000_000
-        while self.taken < len(self.rest.posted):
-            path, token, item = self.rest.posted[self.taken]
-            self.taken += 1
-            if (path, token) != ("/api/multicast-groups/6f1c1a52/queue", "Bearer secret") or set(item) != {"fCnt", "fPort", "data"}:
-                self.wrong.append((path, token, sorted(item)))
-            self.counts.append(item["fCnt"])
-            self.fleet.to_group(now, item["fCnt"], item["fPort"], base64.b64decode(item["data"]))
-
-    def goes_down(self, now, topic, members):
-        eui = topic.split("/")[3]
-        if set(members) != {"devEui", "confirmed", "fPort", "data"} or members["devEui"] != eui or members["confirmed"]:
-            self.wrong.append(members)
-        self.fleet.to_device(now, eui, members["fPort"], base64.b64decode(members["data"]))
-
-    def goes_up(self, uplink):
-        self.publish(f"application/fleet/device/{uplink.eui}/event/up", {
-            "deduplicationId": "5b9c9a3e", "time": epoch_text(uplink.t), "deviceInfo": {"devEui": uplink.eui}, "devAddr": "01a2b3c4",
-            "adr": True, "dr": 5, "fCnt": 17, "fPort": uplink.port, "confirmed": False,
-            "data": base64.b64encode(uplink.payload).decode(), "rxInfo": [], "txInfo": {}})
-
-
-class LiveThingsStack(Live):
-    """The Things Stack, with a group that is a device of its own."""
-
-    down = "v3/fleet@town/devices/+/down/push"
-
-    def __init__(self, folder, broker, library, lead=12):
-        server = (f'[server]\nkind = "things-stack"\nhost = "127.0.0.1"\nport = {broker.port}\napplication = "fleet"\n'
-                  'tenant = "town"\nmulticast_device = "all-meters"\ngateways = ["roof", "tower"]\n')
-        super().__init__(folder, broker, library, server, lead)
-
-    def goes_down(self, now, topic, members):
-        name, (down,) = topic.split("/")[3], members["downlinks"]
-        payload = base64.b64decode(down["frm_payload"])
-        if name == "all-meters":
-            gateways = [one["gateway_ids"]["gateway_id"] for one in down["class_b_c"]["gateways"]]
-            if gateways != ["roof", "tower"]:
-                self.wrong.append(down)
-            # (the server counts by itself)
-            self.counts.append(100 + len(self.counts))
-            self.fleet.to_group(now, self.counts[-1], down["f_port"], payload)
-        else:
-            eui = next(eui for eui in EUIS if name == f"meter-{eui[-1]}")
-            self.fleet.to_device(now, eui, down["f_port"], payload)
-
-    def goes_up(self, uplink):
-        self.publish(f"v3/fleet@town/devices/meter-{uplink.eui[-1]}/up", {
-            "end_device_ids": {"device_id": f"meter-{uplink.eui[-1]}", "dev_eui": uplink.eui.upper()},
-            "received_at": epoch_text(uplink.t).replace("Z", ".123456789Z"),
-            "uplink_message": {"f_port": uplink.port, "f_cnt": 17, "frm_payload": base64.b64encode(uplink.payload).decode()}})
 
 
 def pumped(*servers, until):
@@ -245,7 +45,7 @@ def pumped_to_the_end(*servers):
 
 @pytest.fixture
 def broker(tmp_path):
-    broker = Broker(tmp_path)
+    broker = Broker(tmp_path, users=[(USER, PASSWORD)])
     yield broker
     broker.end()
 
@@ -414,7 +214,7 @@ def test_no_access_file(tmp_path):
 
 
 def chirpstack_at(address="http://127.0.0.1:1", token=None):
-    return ChirpStack(host="127.0.0.1", port=1, application="a", multicast_group="g", http=address, token_file=token)
+    return ChirpStack(host="127.0.0.1", port=1, application="a", multicast_group=GROUP, http=address, token_file=token)
 
 
 def post(chirpstack):
@@ -428,15 +228,15 @@ def post(chirpstack):
 @pytest.fixture
 def stub(tmp_path):
     """A stub of the REST API, and a server that talks to it."""
-    (tmp_path / "token").write_text("secret")
+    private(tmp_path / "token", "secret")
     with rest_stub() as rest:
-        yield rest, chirpstack_at(f"http://127.0.0.1:{rest.server_address[1]}", tmp_path / "token")
+        yield rest, chirpstack_at(rest.address, tmp_path / "token")
 
 
 def test_a_payload_for_the_group(stub):
     rest, chirpstack = stub
     assert post(chirpstack) == 100
-    assert rest.posted == [("/api/multicast-groups/g/queue", "Bearer secret", {"fCnt": 100, "fPort": 201, "data": "AQI="})]
+    assert rest.posted == [(100, 201, "AQI=")]
 
 
 @pytest.mark.parametrize("status, kind", [(500, "Lost"), (503, "Lost"), (429, "Lost"), (401, "Refusing"), (404, "Refusing")])
@@ -454,7 +254,7 @@ def test_a_count_beyond_the_groups(stub):
 
 
 def test_nobody_listens():
-    assert post(chirpstack_at()) == ("Lost", "http://HOST/api/multicast-groups/g/queue: Connection refused")
+    assert post(chirpstack_at()) == ("Lost", "http://HOST/api/multicast-groups/6f1c1a52-group/queue: Connection refused")
 
 
 def test_no_token(tmp_path):

@@ -4,12 +4,13 @@ import logging
 import time
 
 from ..errors import Failed
+from ..library import Library
 from ..lns import Lost as Lost, Refusing as Refusing, Uplink as Uplink
-from .plan import Device, Group
+from .plan import Device, Group, Plan
 
 LOG = logging.getLogger(__name__)
 # What a malformed message raises.
-STRANGE = (ValueError, LookupError, TypeError, AttributeError, RecursionError)
+STRANGE = (ValueError, LookupError, TypeError, AttributeError, ArithmeticError, RecursionError)
 
 
 class Ended(Failed):
@@ -26,6 +27,13 @@ class Carrier(abc.ABC):
     def now(self) -> int:
         """ms of Unix time."""
         return time.time_ns() // 1_000_000
+
+    def hold(self, plan: Plan, is_new: bool, calls: Library | None) -> None:
+        """Refuses a network server that is set up otherwise than a plan, whose campaign is new or was begun before."""
+
+    def away_since(self) -> int | None:
+        """Since when, in ms of Unix time, nothing can be heard; None where something can."""
+        return None
 
     @abc.abstractmethod
     def wait(self, until: float) -> list[Uplink]:

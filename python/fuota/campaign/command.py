@@ -6,21 +6,26 @@ import os
 import pathlib
 import signal
 import sys
+import time
 from collections.abc import Callable
 from functools import partial
 from typing import NoReturn
 
 from .. import library, words
 from ..errors import Failed, Wrong
-from ..lns import Refusing
-from .carrier import Carrier
-from .folder import Folder
-from .mqtt import Mqtt
+from ..lns import Lost, Refusing, Server
+from ..theory import duration
+from .carrier import LOG, Carrier
+from .folder import Folder, is_used
+from .mqtt import Mqtt, access_of
+from .online import tried
 from .pipe import Pipe
-from .plan import Plan, lines_of, read_plan
+from .plan import Plan, moment_of, read_plan
 from .play import Campaign
-from .progress import Kept, Progress, picture_of
+from .progress import Kept, Picture, Progress
+from .reckoning import begin_of, lines_of, set_up_of, unfit
 from .rehearsal import Rehearsal
+from .settings import euis_of, group_of, lines_of as settings_lines
 
 NAME = "fuota-campaign"
 NOT_ALL = 3
@@ -63,14 +68,22 @@ def parser() -> argparse.ArgumentParser:
         made.add_argument("plan", metavar="PLAN", type=pathlib.Path, help="the plan, a file in TOML")
         return made
 
-    def of_folder(made: argparse.ArgumentParser) -> argparse.ArgumentParser:
-        made.add_argument("folder", metavar="FOLDER", type=pathlib.Path,
-                          help="where the campaign is kept; made where it is not there")
+    def with_library(made: argparse.ArgumentParser) -> argparse.ArgumentParser:
         made.add_argument("--library", metavar="FILE", help="libfuota.so; else FUOTA_LIBRARY of the environment names it")
         return made
 
+    def of_folder(made: argparse.ArgumentParser) -> argparse.ArgumentParser:
+        made.add_argument("folder", metavar="FOLDER", type=pathlib.Path,
+                          help="where the campaign is kept; made where it is not there")
+        return with_library(made)
+
     way("sample", sample, "prints a plan with each field explained")
-    of_plan(way("check", check, "says what would be sent and when, and sends nothing"))
+    settings_words = with_library(of_plan(way("settings", settings, "prints what a network server has to know of the plan's group")))
+    settings_words.add_argument("--apply", action="store_true", help="makes the group over ChirpStack's API, and prints its id")
+    check_words = with_library(of_plan(way("check", check, "says what would be sent and when, and sends nothing")))
+    check_words.add_argument("--online", action="store_true", help="tries the network server too: broker, uplinks, group and devices")
+    check_words.add_argument("--wait", metavar="SECONDS", type=words.fraction(0, 86_400), default=10.0,
+                             help="with --online: so long it waits for an uplink; 10 if left out")
     rehearse_words = of_folder(of_plan(way("rehearse", rehearse, "plays the campaign at once, against simulated devices")))
     rehearse_words.add_argument("--loss", metavar="PERCENT", type=percent, default=0.0,
                                 help="so much of what is sent is lost, each way; 0 if left out")
@@ -82,6 +95,9 @@ def parser() -> argparse.ArgumentParser:
     status_words = way("status", status, "says how the campaign of a folder stands")
     status_words.add_argument("folder", metavar="FOLDER", type=pathlib.Path)
     status_words.add_argument("--picture", metavar="FILE", type=pathlib.Path, help="draws it, as SVG")
+    forms = status_words.add_mutually_exclusive_group()
+    for name, form, help_text in (("--json", Kept.json, "as an object of JSON"), ("--csv", Kept.csv, "the devices as lines of CSV")):
+        forms.add_argument(name, dest="form", action="store_const", const=form, default=Kept.text, help=help_text)
     return whole
 
 
@@ -93,22 +109,65 @@ def sample(asked: argparse.Namespace) -> int:
     return words.DONE
 
 
+def settings(asked: argparse.Namespace) -> int:
+    plan, calls = read_plan(asked.plan, has_group=False), calls_of(asked.library)
+    if not asked.apply:
+        print("\n".join(settings_lines(plan, calls)))
+        return words.DONE
+    try:
+        made = server_of(plan).make_group(group_of(plan, calls), plan.region.name, euis_of(plan))
+    except (Lost, Refusing) as why:
+        raise Failed(why) from None
+    print(f'multicast_group = "{made}"')
+    return words.DONE
+
+
 def check(asked: argparse.Namespace) -> int:
-    plan = read_plan(asked.plan)
-    print("\n".join(lines_of(plan)))
-    return words.WRONG if plan.does_not_fit() else words.DONE
+    plan, now = read_plan(asked.plan), time.time_ns() // 1_000_000
+    print("\n".join(lines_of(plan, now)))
+    if plan.server:
+        plan.server.prepare()
+        access_of(plan.server.access_file)
+    fault = unfit(plan, now)
+    if fault and not plan.does_not_fit():
+        raise Wrong(f"{plan.file}: {fault}")
+    is_well = not asked.online or is_well_online(plan, calls_of(asked.library), asked.wait)
+    return words.WRONG if fault or not is_well else words.DONE
+
+
+def is_well_online(plan: Plan, calls: library.Library, wait: float) -> bool:
+    """Says what is found at the network server of a plan, and whether all is well."""
+    with contextlib.closing(Mqtt(server_of(plan), "")) as carrier:
+        found = []
+        for one in tried(plan, carrier, calls, wait):
+            print(one.line, flush=True)
+            found.append(one.is_well)
+    return all(found)
+
+
+def server_of(plan: Plan, else_by: str = "") -> Server:
+    """The network server of a plan, which has to have one, or be run in another way."""
+    if plan.server is None:
+        raise Wrong(f'{plan.file}: missing table "server"{else_by}')
+    return plan.server
 
 
 def status(asked: argparse.Namespace) -> int:
     kept = Kept(asked.folder)
-    print("\n".join(kept.table()))
+    form: Callable[[Kept], str] = asked.form
+    print(form(kept), end="")
     if asked.picture:
-        asked.picture.write_text(picture_of(kept))
+        asked.picture.write_text(Picture(kept).drawn())
     return words.DONE
 
 
 def rehearse(asked: argparse.Namespace) -> int:
     plan, calls = read_plan(asked.plan), calls_of(asked.library)
+    if is_used(asked.folder):
+        raise Wrong(f"{asked.folder}: a campaign is kept there already, and a rehearsal takes a new folder")
+    begin = begin_of(plan)
+    if begin is not None:
+        print(f"begins {moment_of(begin)}, since the set-up takes about {duration(set_up_of(plan).likely)}")
     return played(plan, calls, asked.folder, partial(Rehearsal, plan, calls, asked.loss, asked.seed), Progress(sys.stdout))
 
 
@@ -116,12 +175,13 @@ def run(asked: argparse.Namespace) -> int:
     if asked.simulated and not asked.pipe:
         raise Wrong("--simulated goes with --pipe")
     plan, calls = read_plan(asked.plan), calls_of(asked.library)
+    if plan.exposed:
+        LOG.warning("%s", plan.exposed)
     if asked.pipe:
         return played(plan, calls, asked.folder, partial(Pipe, asked.simulated), Progress(sys.stderr))
-    if plan.server is None:
-        raise Wrong(f'{plan.file}: missing table "server", and no --pipe')
+    server = server_of(plan, ", and no --pipe")
     client = "fuota-" + hashlib.sha256(os.fsencode(os.path.realpath(asked.folder))).hexdigest()[:16]
-    return played(plan, calls, asked.folder, partial(Mqtt, plan.server, client), Progress(sys.stdout))
+    return played(plan, calls, asked.folder, partial(Mqtt, server, client), Progress(sys.stdout))
 
 
 def calls_of(path: str | None) -> library.Library:

@@ -2,8 +2,10 @@
 import enum
 from typing import Any
 
-from ..library import STAGES
-from .plan import Retry
+from ..library import STAGES, Down
+from ..theory import duration
+from .heard import refusal
+from .plan import Retry, moment_of
 
 # The stages before the fragments.
 SETUP = STAGES[:STAGES.index("status")]
@@ -23,24 +25,30 @@ class Standing(enum.Enum):
 
 
 class Contact:
-    """A device. Lines of the journal, as they are written and as they are read again, change all but its queue: after a
-    restart the queue is assumed empty."""
+    """A device. Lines of the journal, as they are written and as they are read again, change all but its queue and the answer
+    that waits: after a restart there are none."""
 
     def __init__(self, number: int, eui: str, since: int, retry: Retry) -> None:
         self.number, self.eui, self.retry = number, eui, retry
-        self.standing = Standing.ASKED
-        self.stages = [("version", since)]
+        self.standing, self.stage = Standing.ASKED, "version"
+        # Its words over time, each with its moment.
+        self.words = [("version", since)]
         self.tries, self.due = 0, 0
         # How many pieces it missed at last, how often it did so once sending had ended, and when it was heard.
         self.missing: int | None = None
         self.short = 0
         self.heard_at: int | None = None
+        # The stage at which it refused, with the bits and the text of its answer; and the ms that its clock was behind, or, where it
+        # took the window for past, that it was ahead at least.
+        self.refused_at, self.refusal = "", ""
+        self.bits: int | None = None
+        self.behind: int | None = None
+        self.was_past = False
         # Payloads that wait for an uplink of it, and whether it was heard since it was due.
         self.queued, self.was_heard = 0, False
-
-    @property
-    def stage(self) -> str:
-        return self.stages[-1][0]
+        # The newest answer that waits to be sent, and when the last one was: with the same distance as requests have.
+        self.waiting: Down | None = None
+        self.answered_at = 0
 
     @property
     def is_silent(self) -> bool:
@@ -62,6 +70,35 @@ class Contact:
             return self.stage
         return "incomplete" if self.stage == "status" and self.missing else "silent"
 
+    @property
+    def since(self) -> int:
+        """Since when it has its word."""
+        return self.words[-1][1]
+
+    @property
+    def cause(self) -> str | None:
+        """Why it is not updated, in some words; None where nothing is known to be wrong."""
+        if self.word == "refused":
+            return f"at {self.refused_at}" + ("" if self.bits is None else f": {refusal(self.refused_at, self.bits)}")
+        if self.word == "silent":
+            return f"at {self.stage}"
+        if self.word == "incomplete":
+            return f"{self.missing} missing"
+        return None
+
+    @property
+    def why(self) -> str:
+        """The cause with all that is known of it; empty where nothing is wrong."""
+        told = [self.cause or ""]
+        if self.is_silent:
+            told = [f"{told[0]}, after {self.tries} tries, since {moment_of(self.since)}"]
+        elif self.refusal:
+            told = [f"{told[0]} ({self.refusal})"]
+        if self.behind is not None and self.stage != "updated":
+            way = "behind" if self.behind > 0 else "ahead" + " or more" * self.was_past
+            told.append(f"its clock was {duration(abs(self.behind))} {way}")
+        return "; ".join(words for words in told if words)
+
     # ---- By the journal
 
     def take(self, line: dict[str, Any]) -> None:
@@ -71,21 +108,34 @@ class Contact:
             self.heard_at = t
         if "silent" in line:
             self.tries, self.standing = line["tries"], Standing.SILENT
+        if "bits" in line:
+            self.refused_at, self.bits, self.refusal = line["request"], line["bits"], line.get("answer", self.refusal)
+        if "behind" in line:
+            self.behind, self.was_past = line["behind"], line["start"] == 0
+        elif line.get("sent") == "answer":
+            # (it was given the time since)
+            self.behind = None
         if "stage" in line:
             self.move(t, line["stage"])
         if line.get("sent") == "request":
             self.tries += 1
             self.ask_later(t)
+        if line.get("sent") == "answer":
+            self.answered_at = t
         if "missing" in line:
             self.missing = line["missing"]
             self.short += bool(line["over"] and line["missing"] > 0)
         if line.get("back"):
             self.ask_anew(t)
+        if self.word != self.words[-1][0]:
+            self.words.append((self.word, t))
 
     def move(self, t: int, stage: str) -> None:
         """Its stage is this. A device that reboots is not asked at once."""
         if stage != self.stage:
-            self.stages.append((stage, t))
+            if stage == "refused":
+                self.refused_at = self.refused_at or self.stage
+            self.stage = stage
             self.ask_anew(t + self.retry.distance if stage == "check" else t)
 
     def ask_later(self, t: int) -> None:

@@ -2,11 +2,40 @@
 import fcntl
 import os
 import pathlib
+import stat
 
 from .. import library
 from ..errors import Wrong
 from .journal import Journal
 from .plan import Plan
+
+
+def is_used(path: pathlib.Path) -> bool:
+    """Whether a campaign is kept there."""
+    return any((path / name).exists() for name in ("state", "journal"))
+
+
+def refuse_foreign(path: pathlib.Path) -> None:
+    """Refuses a folder in which somebody else may have a hand: it and all in it are the user's, nobody else may write there, and
+    what is in it are regular files."""
+    for one in (path, *sorted(path.iterdir())):
+        told = path.stat() if one == path else one.lstat()
+        if one != path and not stat.S_ISREG(told.st_mode):
+            raise Wrong(f"{one}: not a regular file, and no other belongs there")
+        if told.st_uid != os.geteuid():
+            raise Wrong(f"{one}: it belongs to another user")
+        if told.st_mode & 0o022:
+            raise Wrong(f"{one}: others may write to it (mode {stat.S_IMODE(told.st_mode):04o}): chmod go-w {one}")
+
+
+def words_of(plan: Plan) -> tuple[library.Plan, list[library.PlanDevice], bytes]:
+    """What the library takes for a server of a plan."""
+    return plan.for_library(), plan.devices_for_library, plan.image.data
+
+
+def first_server(plan: Plan, calls: library.Library | None) -> library.Server:
+    """The server of a plan at its start."""
+    return library.Server(*words_of(plan), calls)
 
 
 class Folder:
@@ -15,6 +44,7 @@ class Folder:
     def __init__(self, path: str | pathlib.Path) -> None:
         self.path = pathlib.Path(path)
         self.path.mkdir(mode=0o700, exist_ok=True)
+        refuse_foreign(self.path)
         self.lock = os.open(self.path / "lock", os.O_RDWR | os.O_CREAT | os.O_CLOEXEC, 0o600)
         try:
             fcntl.flock(self.lock, fcntl.LOCK_EX | fcntl.LOCK_NB)
@@ -40,11 +70,10 @@ class Folder:
 
     def server_of(self, plan: Plan, calls: library.Library | None) -> library.Server:
         """The server of a plan as it was kept, or else at its start."""
-        words = plan.for_library(), plan.devices_for_library, plan.image.data
         try:
             if self._saved is None:
-                return library.Server(*words, calls)
-            return library.Server.restore(*words, self._saved, calls)
+                return first_server(plan, calls)
+            return library.Server.restore(*words_of(plan), self._saved, calls)
         except library.Corrupt:
             raise Wrong(f"{self.path / 'state'}: broken, or of another plan or image; nothing was sent") from None
         except library.WrongField as why:
@@ -57,7 +86,7 @@ class Folder:
         if saved == self._saved:
             return
         new = self.path / "state.new"
-        with open(new, "wb") as handle:
+        with open(os.open(new, os.O_WRONLY | os.O_CREAT | os.O_TRUNC | os.O_NOFOLLOW | os.O_CLOEXEC, 0o600), "wb") as handle:
             handle.write(saved)
             handle.flush()
             os.fsync(handle.fileno())

@@ -15,7 +15,7 @@ LOG = logging.getLogger(__name__)
 
 
 class Journal:
-    """Lines of JSON, of which each is on the disk before `write` returns; `lines` are those that were there before."""
+    """Lines of JSON, which are on the disk before `write` returns; `lines` are those that were there before."""
 
     def __init__(self, path: pathlib.Path) -> None:
         self.handle = os.open(path, os.O_RDWR | os.O_CREAT | os.O_APPEND, 0o600)
@@ -28,11 +28,12 @@ class Journal:
             os.ftruncate(self.handle, self.size)
         self.lines = lines_of(text[:self.size], path)
 
-    def write(self, line: Line) -> None:
-        """Writes a line; where there is no room it is as if it had not been begun."""
-        text = json.dumps(line, separators=(",", ":"))
-        LOG.info("%s", text)
-        left = data = text.encode() + b"\n"
+    def write(self, *lines: Line) -> None:
+        """Writes lines at once; where there is no room it is as if they had not been begun."""
+        texts = [json.dumps(line, separators=(",", ":")) for line in lines]
+        for text in texts:
+            LOG.info("%s", text)
+        left = data = "".join(f"{text}\n" for text in texts).encode()
         try:
             while left:
                 left = left[os.write(self.handle, left):]
@@ -72,9 +73,16 @@ class History:
         # How many fragments were taken from the server.
         self.number = 0
         self.begin, self.last = 0, 0
+        # The window's begin and end, and the group's next frame count; none where the journal tells none.
+        self.window: tuple[int, int] | None = None
+        self.next_count: int | None = None
         # When fragments went out; and by unicast and to the group the last payload's moment and its ms on the air.
         self.fragments_at: list[int] = []
         self.sent: dict[bool, tuple[int, float]] = {}
+        # The fragment that went out last by unicast, and the devices that it went to.
+        self.copied, self.copied_to = 0, set[str]()
+        # Whether what went to a device last was an answer.
+        self.was_answer = False
         for line in lines:
             self.take(line)
 
@@ -85,12 +93,27 @@ class History:
             self.begin, self.carrier = line["t"], line["by"]
             self.index, self.fragments = line["index"], line["fragments"]
             self.contacts = {eui: Contact(number, eui, self.begin, self.retry) for number, eui in enumerate(line["devices"], 1)}
+        if "opens" in line:
+            self.window, self.next_count = (line["opens"], line["closes"]), line["first"]
+        for name in ("count", "given"):
+            if name in line:
+                self.next_count = max(self.next_count or 0, line[name] + 1)
         if "number" in line:
             self.number = line["number"]
         if line.get("sent") == "fragment":
             self.fragments_at.append(line["t"])
+            self.take_copy(line)
         if "air" in line:
             self.sent["count" in line] = line["t"], line["air"]
+        if "sent" in line and "device" in line:
+            self.was_answer = line["sent"] == "answer"
         contact = self.contacts.get(line.get("device", ""))
         if contact:
             contact.take(line)
+
+    def take_copy(self, line: Line) -> None:
+        """A fragment went out, by unicast where it names a device."""
+        if line["number"] != self.copied:
+            self.copied, self.copied_to = line["number"], set()
+        if "device" in line:
+            self.copied_to.add(line["device"])

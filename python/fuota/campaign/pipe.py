@@ -8,13 +8,18 @@ import time
 from collections.abc import Iterator
 from typing import Any
 
+from ..limits import MAX_MESSAGE, MAX_PAYLOAD
 from ..lns.server import eui_of
 from .carrier import STRANGE, Carrier, Ended, Uplink, pass_over
 from .plan import Device, Group
 
 
+# The latest moment that there is, in ms of Unix time: the end of the year 9999.
+LAST_MOMENT = 253_402_300_799_999
+
+
 class Lines:
-    """The lines that come from a file descriptor."""
+    """The lines that come from a file descriptor. One that is too long is cut, and one byte longer than others may be."""
 
     def __init__(self, source: int) -> None:
         self.source, self.rest, self.is_over = source, b"", False
@@ -29,12 +34,21 @@ class Lines:
                 return
             part = os.read(self.source, 65_536)
             self.is_over = not part
-            *lines, self.rest = (self.rest + part).split(b"\n")
-            self.lines += lines
+            *lines, rest = (self.rest + part).split(b"\n")
+            self.lines += [line[:MAX_MESSAGE + 1] for line in lines]
+            self.rest = rest[:MAX_MESSAGE + 1]
 
     def take(self) -> list[bytes]:
         taken, self.lines = self.lines, []
         return taken
+
+
+def number_of(members: dict[str, Any], name: str, most: float) -> int:
+    """A member that is a number from 0 to this."""
+    value = members[name]
+    if type(value) is not int or not 0 <= value <= most:
+        raise ValueError(f"invalid {name}: {value!r:.40}")
+    return value
 
 
 class Pipe(Carrier):
@@ -70,19 +84,20 @@ class Pipe(Carrier):
 
     def read(self, line: bytes) -> Iterator[Uplink]:
         try:
+            if len(line) > MAX_MESSAGE:
+                raise ValueError(f"a line of more than {MAX_MESSAGE} bytes")
             members = json.loads(line)
             if not isinstance(members, dict):
                 raise ValueError("not an object")
             if "time" in members and self.t is not None:
-                self.t = max(self.t, int(members["time"]))
+                self.t = max(self.t, number_of(members, "time", LAST_MOMENT))
                 if "device" not in members:
                     return
-            port, t = members["port"], members.get("time", self.now())
-            if isinstance(port, bool) or not isinstance(port, int) or not 0 <= port <= 255:
-                raise ValueError(f"invalid port: {port!r:.40}")
-            if not isinstance(t, int) or t < 0:
-                raise ValueError(f"invalid time: {t!r:.40}")
-            yield Uplink(eui_of(members["device"]), port, bytes.fromhex(members["payload"]), t)
+            t = number_of(members, "time", math.inf) if "time" in members else self.now()
+            payload = bytes.fromhex(members["payload"])
+            if len(payload) > MAX_PAYLOAD:
+                raise ValueError(f"a payload of {len(payload)} bytes, and not of at most {MAX_PAYLOAD}")
+            yield Uplink(eui_of(members["device"]), number_of(members, "port", 255), payload, t)
         except STRANGE as why:
             pass_over(line, why)
 

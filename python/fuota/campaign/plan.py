@@ -2,7 +2,7 @@
 import datetime
 import math
 import pathlib
-from collections.abc import Iterator
+import stat
 from dataclasses import dataclass
 from typing import Any
 
@@ -10,13 +10,16 @@ from .. import fields, image, library, lns
 from ..errors import Wrong
 from ..fields import Place, choice, digits, file, member, number, raw_table, seconds, table, tables, whole, word
 from ..limits import MAX_CODED, MAX_DEVICES, MAX_PIECE, MAX_PIECES, MAX_ROWS
-from ..theory import DATA_RATES, FRAGMENT_HEAD, FRAME, air_time, chain_of, complete_shares, duration, time_of
+from ..lns.server import EUI, eui_of
+from ..regions import DEFAULT, REGIONS, Region
+from ..theory import FRAGMENT_HEAD, FRAME, air_time, chain_of, complete_shares, duration, time_of
 
 # Unix time of the GPS epoch, and the leap seconds since, in ms.
 GPS_EPOCH, LEAP = 315_964_800_000, 18_000
 # Seconds from a beacon of class B to the next one.
 BEACON = 128
-LAST_RATE = max(DATA_RATES)
+# The last data rate that a number of four bits can name.
+LAST_RATE = 15
 LAST_COUNT = 2**32 - 1
 
 
@@ -91,11 +94,13 @@ class Window:
 
 @dataclass(frozen=True, kw_only=True)
 class Pace:
-    """The least distance of downlinks in ms, the percent of time on the air, and the data rate of what goes by unicast."""
+    """The least distance of downlinks in ms, the percent of time on the air, the data rate of what goes by unicast, or the region's
+    slowest, and the ms in which a device of class A sends an uplink, or those of a retry."""
 
     distance: int = member(seconds(0, 86_400))
     duty_cycle: float = member(number(0.01, 100))
-    unicast_data_rate: int = member(whole(0, LAST_RATE), 0)
+    unicast_data_rate: int | None = member(whole(0, LAST_RATE), None)
+    uplink_period: int | None = member(seconds(0.001, 2_592_000), None)
 
 
 @dataclass(frozen=True, kw_only=True)
@@ -106,12 +111,18 @@ class Retry:
     tries: int = member(whole(1, 1_000))
 
 
+def eui(value: Any) -> bytes:
+    """Reads an EUI of 16 hex digits, maybe with separators."""
+    octets: bytes = digits(16)(eui_of(value) if isinstance(value, str) and EUI.fullmatch(value) else value)
+    return octets
+
+
 @dataclass(frozen=True, kw_only=True)
 class Device:
     """A device. What goes to one of class A waits in its network server's queue for an uplink. It has a GenAppKey of LoRaWAN
     1.0, or an AppKey of LoRaWAN 1.1."""
 
-    eui_bytes: bytes = member(digits(16), name="eui")
+    eui_bytes: bytes = member(eui, name="eui")
     gen_app_key: bytes | None = member(digits(32), None)
     app_key: bytes | None = member(digits(32), None)
     kind: str = member(choice("A", "C"), name="class")
@@ -136,6 +147,7 @@ class File:
     """A whole file."""
 
     image: pathlib.Path = member(file)
+    region: str = member(choice(*REGIONS), DEFAULT)
     fragments: Fragments = table(Fragments)
     group: Group | None = table(Group, None)
     window: Window | None = table(Window, None)
@@ -150,12 +162,15 @@ class File:
 
 @dataclass(frozen=True)
 class Plan:
-    """A plan, whose tables fit each other; a group and a window go together."""
+    """A plan, whose tables fit each other; a group and a window go together. `loss` is the share of fragments that a device
+    loses, where the plan tells it."""
 
     file: pathlib.Path
     image: image.Image
+    region: Region
     size: int
     coded: int
+    loss: float | None
     index: int
     group: Group | None
     window: Window | None
@@ -174,8 +189,8 @@ class Plan:
 
     def air(self, length: int, is_group: bool) -> float:
         """The ms that a payload is on the air."""
-        rate = self.window.data_rate if self.window and is_group else self.pace.unicast_data_rate
-        return air_time(rate, FRAME + length)
+        number = self.window.data_rate if self.window and is_group else self.unicast_rate
+        return air_time(self.region.rates[number], FRAME + length)
 
     @property
     def fragment_air(self) -> float:
@@ -185,6 +200,20 @@ class Plan:
     def distance(self, air: float) -> int:
         """The ms from a downlink of so long to the next one."""
         return math.ceil(max(self.pace.distance, 100 * air / self.pace.duty_cycle))
+
+    @property
+    def unicast_rate(self) -> int:
+        """The data rate by which what goes by unicast is reckoned."""
+        return self.region.slowest if self.pace.unicast_data_rate is None else self.pace.unicast_data_rate
+
+    @property
+    def has_class_a(self) -> bool:
+        return any(not device.is_class_c for device in self.devices)
+
+    @property
+    def uplink_period(self) -> int:
+        """The ms in which a device of class A sends an uplink."""
+        return self.pace.uplink_period or self.retry.distance
 
     @property
     def copies(self) -> int:
@@ -216,6 +245,12 @@ class Plan:
         return library.Plan(**told)
 
     @property
+    def exposed(self) -> str | None:
+        """What is said of a file, which has keys, that others may read; None where they may not."""
+        mode = stat.S_IMODE(self.file.stat().st_mode)
+        return f"others may read {self.file} (mode {mode:04o}), and it has keys: chmod 600 {self.file}" if mode & 0o077 else None
+
+    @property
     def devices_for_library(self) -> list[library.PlanDevice]:
         return [device.for_library for device in self.devices]
 
@@ -223,8 +258,8 @@ class Plan:
 # ---- How it is read
 
 
-def read_plan(path: str | pathlib.Path) -> Plan:
-    """The plan of a file."""
+def read_plan(path: str | pathlib.Path, has_group: bool = True) -> Plan:
+    """The plan of a file; `has_group` says that its network server has the plan's group already."""
     place = Place(pathlib.Path(path))
     told = fields.read(File, place, fields.read_file(place.file))
     try:
@@ -239,10 +274,13 @@ def read_plan(path: str | pathlib.Path) -> Plan:
     if pieces > MAX_PIECES:
         raise place.wrong(f"{pieces} pieces of {told.fragments.size} bytes, and not at most {MAX_PIECES}", "fragments.size")
     coded = coded_for(told.fragments, pieces, place.inner("fragments"))
-    server = None if told.server is None else lns.read(place.inner("server"), told.server, told.group is not None)
-    plan = Plan(place.file, made, told.fragments.size, coded, told.fragments.index, told.group, told.window, told.pace, told.retry,
-                server, told.devices)
+    server = None if told.server is None else lns.read(place.inner("server"), told.server, has_group and told.group is not None)
+    loss = None if told.fragments.loss is None else told.fragments.loss / 100
+    plan = Plan(place.file, made, REGIONS[told.region], told.fragments.size, coded, loss, told.fragments.index, told.group, told.window,
+                told.pace, told.retry, server, told.devices)
+    hold_region(plan, place)
     hold_devices(plan, place)
+    hold_retry(plan, place)
     hold_window(plan, place)
     return plan
 
@@ -269,6 +307,17 @@ def coded_for(fragments: Fragments, pieces: int, place: Place) -> int:
     return found
 
 
+def hold_region(plan: Plan, place: Place) -> None:
+    """Refuses data rates and a frequency that no downlink of the region has."""
+    rates, region = plan.region.rates, plan.region
+    for name, number in (("window.data_rate", plan.window and plan.window.data_rate), ("pace.unicast_data_rate", plan.unicast_rate)):
+        if number is not None and number not in rates:
+            raise place.wrong(f"{number} is not from {min(rates)} to {max(rates)}, the data rates of downlinks in {region.name}", name)
+    if plan.window and not region.lowest <= plan.window.frequency <= region.highest:
+        raise place.wrong(f"{plan.window.frequency / 1e6:g} MHz is not from {region.lowest / 1e6:g} to {region.highest / 1e6:g} MHz, the "
+                          f"frequencies of {region.name}", "window.frequency")
+
+
 def hold_devices(plan: Plan, place: Place) -> None:
     """Refuses devices with two keys or none, two of one EUI, and one without the id that its network server needs."""
     euis: list[str] = []
@@ -285,13 +334,21 @@ def hold_devices(plan: Plan, place: Place) -> None:
         euis.append(device.eui)
 
 
+def hold_retry(plan: Plan, place: Place) -> None:
+    """Refuses tries that are over before a device of class A is heard once."""
+    asked = plan.retry.tries * plan.retry.distance
+    if plan.has_class_a and asked < plan.uplink_period:
+        raise place.wrong(f"{plan.retry.tries} tries take {duration(asked)}, and an uplink of class A comes each "
+                          f"{duration(plan.uplink_period)}: take more, or a longer distance", "retry.tries")
+
+
 def hold_window(plan: Plan, place: Place) -> None:
     """Refuses a group and a window that do not fit each other or the fragments."""
     group, window = plan.group, plan.window
-    rate = window.data_rate if window else plan.pace.unicast_data_rate
-    longest = DATA_RATES[rate][2] - FRAGMENT_HEAD
+    number = window.data_rate if window else plan.unicast_rate
+    longest = plan.region.rates[number].longest - FRAGMENT_HEAD
     if plan.size > longest:
-        raise place.wrong(f"data rate {rate} carries pieces of {longest} bytes at most", "fragments.size")
+        raise place.wrong(f"data rate {number} carries pieces of {longest} bytes at most", "fragments.size")
     if not group or not window:
         return
     if not 0 <= gps(window.start) // 1000 < 2**32:
@@ -305,26 +362,3 @@ def hold_window(plan: Plan, place: Place) -> None:
     if not group.first + plan.fragments < group.end:
         raise place.wrong(f"{plan.fragments} fragments and a request for the status need the frame counts from {group.first} to "
                           f"{group.first + plan.fragments}, and {group.end} ends before", "group.end")
-
-
-# ---- What it comes to
-
-
-def lines_of(plan: Plan) -> Iterator[str]:
-    """What would be sent, and when, a line each."""
-    made = plan.image
-    hardware = made.lowest if made.lowest == made.highest else f"{made.lowest} to {made.highest}"
-    yield f"image: {len(made.data)} bytes, firmware {made.version} for hardware {hardware}"
-    yield f"fragments: {plan.pieces} of {plan.size} bytes and {plan.coded} coded, {plan.fragments} in all"
-    requests = 8 if plan.group else 6
-    yield f"devices: {len(plan.devices)}, each asked {requests} times or more, by unicast"
-    has = ""
-    if plan.group and plan.window:
-        group, window = plan.group, plan.window
-        yield f"group: {group.address.hex()}, frame counts {group.first} to {group.first + plan.fragments}"
-        yield (f"window: class {window.kind}, from {moment_of(window.opens)} on for {duration(window.length)}, on "
-               f"{window.frequency / 1e6:g} MHz at data rate {window.data_rate}")
-        has = f", the window has {duration(window.length - 2 * window.guard)}"
-    air = plan.fragment_air
-    yield f"air: {duration(air)} a fragment, the next one {duration(plan.distance(air))} after it"
-    yield f"time: {plan.does_not_fit() or f'the fragments take {duration(plan.need)}{has}'}"

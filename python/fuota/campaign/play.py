@@ -6,29 +6,17 @@ from typing import Any
 
 from .. import library
 from ..errors import Wrong
-from .carrier import Carrier, Lost, Uplink
+from .carrier import LOG, Carrier, Lost, Uplink
 from .contact import SETUP, Contact
-from .folder import Folder
-from .journal import VERSION, History
+from .folder import Folder, first_server
+from .heard import clock_error, missing_in, texts_of
+from .journal import VERSION, History, Line
 from .plan import Plan, gps
+from .reckoning import lateness, unfit
 
 # The ms until a network server that did not take a payload is tried again: the first time, and at most.
 FIRST_HOLD, LONGEST_HOLD = 1_000, 60_000
-# Bytes after the identifier of each answer of TS004 that has a length of its own, and of FragSessionStatusAns.
-ANSWERS, STATUS = {0: 2, 1: 4, 2: 1, 3: 1}, 1
-
 Action = tuple[float, Callable[[], None]]
-
-
-def missing_in(port: int, payload: bytes, index: int) -> int | None:
-    """The missing pieces that the last FragSessionStatusAns of an uplink tells for this index; None without one."""
-    found, at = None, 0
-    while port == 201 and at < len(payload) and payload[at] in ANSWERS:
-        body = payload[at + 1:at + 1 + ANSWERS[payload[at]]]
-        if payload[at] == STATUS and len(body) == ANSWERS[STATUS] and body[1] >> 6 == index:
-            found = body[2]
-        at += 1 + ANSWERS[payload[at]]
-    return found
 
 
 class Pace:
@@ -55,12 +43,12 @@ class Campaign:
     """A campaign over a carrier, kept in a folder."""
 
     def __init__(self, plan: Plan, folder: Folder, carrier: Carrier, calls: library.Library | None = None) -> None:
-        self.plan, self.folder, self.carrier = plan, folder, carrier
+        self.plan, self.folder, self.carrier, self.calls = plan, folder, carrier, library.library_of(calls)
         self.hold = 0
         self.copies: list[tuple[Contact, int, library.Down]] = []
         self.history = History(folder.journal.lines, plan.retry)
         self.pace = Pace(plan, self.history.sent)
-        self.server = folder.server_of(plan, calls)
+        self.server = folder.server_of(plan, self.calls)
         self.begin()
 
     # ---- Begun, and begun again
@@ -74,32 +62,68 @@ class Campaign:
             raise Wrong(f"{self.folder.path}: its campaign was begun with other devices, or by {self.history.carrier}")
         if not self.folder.has_server:
             self.refuse_unfit(now)
+        self.carrier.hold(self.plan, is_new, self.calls)
         self.keep()
         if is_new:
-            self.note(version=VERSION, devices=euis, by=self.carrier.name, index=self.plan.index, fragments=self.plan.fragments)
+            self.note(version=VERSION, devices=euis, by=self.carrier.name, index=self.plan.index, fragments=self.plan.fragments,
+                      **self.begin_members())
         else:
             self.note(again=True, number=self.sent)
         for contact in self.contacts:
             contact.resume()
             # (what was kept of the server may be a line ahead of the journal)
-            if contact.stage != self.stage_of(contact):
-                self.note(device=contact.eui, stage=self.stage_of(contact))
+            told = self.stage_of(contact)
+            if contact.stage != told["stage"]:
+                self.note(device=contact.eui, **told)
+        self.copies = self.copies_left()
+
+    def begin_members(self) -> dict[str, int]:
+        """What the first line of the journal tells of a group and its window."""
+        group, window = self.plan.group, self.plan.window
+        return {"first": group.first, "opens": window.opens, "closes": window.closes} if group and window else {}
+
+    def copies_left(self) -> list[tuple[Contact, int, library.Down]]:
+        """By unicast, the copies of the last fragment that had not gone out as the command ended."""
+        number = self.sent
+        has_it = self.history.copied_to if self.history.copied == number else set()
+        left = [contact for contact in self.contacts if contact.stage == "status" and contact.eui not in has_it]
+        if self.plan.group or not number or not left:
+            return []
+        down = self.fragment(number)
+        return [(contact, number, down) for contact in left]
+
+    def fragment(self, number: int) -> library.Down:
+        """A fragment that was taken from the server before. It hangs on plan and image alone: a server at its start, which is
+        never kept, gives it once more. By unicast no frame count is spent by that."""
+        with first_server(self.plan, self.calls) as server:
+            downs = [server.next_fragment() for _ in range(number)]
+        return self.given(downs[-1])
+
+    def given(self, down: library.Down | None) -> library.Down:
+        """What the server gave, which has to be something."""
+        if down is None:
+            raise Wrong(f"{self.folder.path}: the server has nothing to send where it should")
+        return down
 
     def refuse_unfit(self, now: int) -> None:
         """A campaign that can't end well is not begun."""
-        fault = self.plan.does_not_fit()
+        fault = unfit(self.plan, now)
         if fault:
-            raise Wrong(f"{self.plan.file}: window: {fault}")
-        if self.plan.window and self.plan.window.opens <= now:
-            raise Wrong(f"{self.plan.file}: window.start: the moment is past")
+            raise Wrong(f"{self.plan.file}: {fault}")
+        late = lateness(self.plan, now)
+        if late:
+            LOG.warning("%s", late)
 
     @property
     def contacts(self) -> list[Contact]:
         return list(self.history.contacts.values())
 
-    def stage_of(self, contact: Contact) -> str:
-        """Where a device stands, as a word."""
-        return self.server.ledger(contact.number).word
+    def stage_of(self, contact: Contact) -> dict[str, Any]:
+        """Where a device stands, as the journal has it: a refused one with the stage and the bits of its refusal."""
+        stage = self.server.ledger(contact.number)
+        if stage.stage != library.StageKind.STOPPED:
+            return {"stage": stage.word}
+        return {"stage": stage.word, "request": library.Request(stage.request).word, "bits": stage.bits}
 
     def keep(self) -> None:
         self.folder.keep(self.server.save())
@@ -138,8 +162,18 @@ class Campaign:
         """When something is to do, and what; None where nothing is any more."""
         now = self.carrier.now()
         to_all, to_each = (max(now, self.pace.at[is_group]) for is_group in (self.plan.group is not None, False))
-        actions = [*self.to_all(to_all), *self.to_each(to_each, self.is_over(to_all) and not self.copies)]
-        return min(actions, key=lambda action: action[0]) if actions else None
+        fragments = [*self.to_all(to_all)]
+        requests = [*self.to_each(to_each, self.is_over(to_all) and not self.copies)]
+        if not fragments and not requests:
+            return None
+        answers, again = ([*self.to_who_asked(to_each, is_again)] for is_again in (False, True))
+        # (of what is due at one moment the first goes out: what goes to the group, then by turns, where a device that was answered
+        # before comes after all requests)
+        first, others = (fragments, requests) if self.plan.group else ([], fragments + requests)
+        if not any(moment <= to_each for moment, _ in requests):
+            answers += again
+        turns = others + answers if self.history.was_answer else answers + others
+        return min(first + turns + again, key=lambda action: action[0])
 
     def to_all(self, free: float) -> Iterator[Action]:
         """What goes to all devices, which comes first."""
@@ -155,8 +189,9 @@ class Campaign:
             yield free, self.send_status
 
     def to_each(self, free: float, is_over: bool) -> Iterator[Action]:
-        """The requests, and the ends of waiting: those before the fragments, and those after them."""
-        for contact in self.contacts:
+        """The requests, and the ends of waiting: those before the fragments, and those after them. Devices that do not answer
+        hold up no others: the least often asked comes first, and of these the one that is due longest."""
+        for contact in sorted(self.contacts, key=lambda contact: (contact.tries, contact.due)):
             is_asked = contact.stage not in SETUP + ("status",) or is_over == (contact.stage == "status")
             if contact.is_done or contact.is_silent or not is_asked:
                 continue
@@ -165,13 +200,20 @@ class Campaign:
             else:
                 yield max(free, contact.due), partial(self.ask, contact)
 
+    def to_who_asked(self, free: float, is_again: bool) -> Iterator[Action]:
+        """The answers that wait, to devices that were answered before or to the others; the first to whom the last one is longest
+        ago. A device that asks again and again has no more of them than of requests, and none while something waits for an uplink
+        of it."""
+        for contact in sorted(self.contacts, key=lambda contact: contact.answered_at):
+            if contact.waiting and not contact.queued and is_again == (contact.answered_at > 0):
+                yield max(free, contact.answered_at + self.plan.retry.distance), partial(self.answer, contact)
+
     def step(self) -> bool:
         """Waits for uplinks or the next action, and does what is due then; whether there was an action."""
         action = self.next_action()
         if action is None:
             return False
-        for uplink in self.carrier.wait(min(action[0], self.carrier.now() + self.carrier.tick)):
-            self.hear(uplink)
+        self.hear(self.carrier.wait(min(action[0], self.carrier.now() + self.carrier.tick)))
         moment, act = self.next_action() or (math.inf, lambda: None)
         if self.carrier.now() >= moment:
             act()
@@ -192,8 +234,7 @@ class Campaign:
 
     def send(self, down: library.Down | None, contact: Contact | None = None, **told: Any) -> None:
         """Sends what the server gave, once that it gave it is kept and noted."""
-        if down is None:
-            raise Wrong(f"{self.folder.path}: the server has nothing to send where it should")
+        down = self.given(down)
         air = self.plan.air(down.length, down.is_group)
         self.pace.count(self.carrier.now(), air, down.is_group)
         self.keep()
@@ -220,8 +261,8 @@ class Campaign:
     def send_fragment(self) -> None:
         if not self.pause_unless_up():
             return
-        number, down = self.sent + 1, self.server.next_fragment()
-        if down and not down.is_group:
+        number, down = self.sent + 1, self.given(self.server.next_fragment())
+        if not down.is_group:
             self.keep()
             self.copies = [(contact, number, down) for contact in self.contacts if contact.stage == "status"]
             self.send_copy()
@@ -245,43 +286,60 @@ class Campaign:
         elif self.pause_unless_up():
             self.send(self.server.ask(contact.number), contact, sent="request", stage=contact.stage)
 
+    def answer(self, contact: Contact) -> None:
+        """Answers a device that asked for the time. What it is told is by how much its clock was wrong as it asked, which
+        stays right while it waits."""
+        if self.pause_unless_up():
+            down, contact.waiting = contact.waiting, None
+            self.send(down, contact, sent="answer")
+
     def give_up(self, contact: Contact) -> None:
         """A device that did not answer is left alone, until it is heard."""
         self.note(device=contact.eui, silent=contact.stage, tries=contact.tries)
 
-    def hear(self, uplink: Uplink) -> None:
-        """Takes an uplink of a device of the plan, on a port of the packages."""
+    def hear(self, uplinks: list[Uplink]) -> None:
+        """Takes uplinks that came together, and keeps them at once. An answer goes out at its turn."""
+        lines = [line for line in map(self.taken, uplinks) if line]
+        if lines:
+            self.keep()
+            self.folder.journal.write(*lines)
+
+    def taken(self, uplink: Uplink) -> Line | None:
+        """What the journal says of an uplink of a device of the plan, on a port of the packages."""
         contact = self.history.contacts.get(uplink.eui)
         if contact is None:
-            return
-        contact.take_from_queue(self.carrier.now())
+            return None
+        now = self.carrier.now()
+        contact.take_from_queue(now)
         if not 200 <= uplink.port <= 203:
-            return
-        told: dict[str, Any] = {"device": uplink.eui, "heard": uplink.payload.hex(), "port": uplink.port}
+            return None
+        told: Line = {"t": now, "device": uplink.eui, "heard": uplink.payload.hex(), "port": uplink.port}
         try:
             answer = self.server.uplink(contact.number, uplink.port, uplink.payload, max(0, gps(uplink.t)))
         except (library.Refused, library.OutOfRange) as why:
-            self.note(**told, refused=why.name)
-            return
-        self.keep()
-        now = self.carrier.now()
-        told["stage"] = self.stage_of(contact)
+            told["refused"] = why.name
+        else:
+            contact.waiting = answer or contact.waiting
+            texts = texts_of(self.calls, uplink.port, uplink.payload)
+            told |= self.moved(contact, now, texts)
+            missing = missing_in(texts, self.plan.index)
+            if missing is not None:
+                told |= {"missing": missing, "over": self.is_over(now)}
+            told |= clock_error(texts, self.plan, uplink.t)
+        self.history.take(told)
+        return told
+
+    def moved(self, contact: Contact, now: int, texts: list[str]) -> Line:
+        """The stage that a device is at since an uplink, with the text of a refusal, and whether it is back."""
+        told = self.stage_of(contact)
+        if "bits" in told and contact.stage != told["stage"]:
+            told["answer"] = ", ".join(texts)
         is_back = contact.is_silent and told["stage"] in SETUP and told["stage"] == contact.stage
         if is_back and self.plan.group and not self.is_over(now):
             told["back"] = True
-        missing = missing_in(uplink.port, uplink.payload, self.plan.index)
-        if missing is not None:
-            told["missing"], told["over"] = missing, self.is_over(now)
-        self.note(**told)
-        if answer:
-            self.send(answer, contact, sent="answer")
+        return told
 
     # ---- How it stands
-
-    def counts(self) -> dict[str, int]:
-        """How many devices stand where, in order."""
-        names = [contact.word for contact in self.contacts]
-        return {name: names.count(name) for name in (*library.STAGES, "incomplete", "silent") if name in names}
 
     def left(self) -> float:
         """About how many ms the fragments take still."""

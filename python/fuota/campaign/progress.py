@@ -1,33 +1,51 @@
 """How a campaign stands: a line while it runs, a table and a picture of what its folder keeps."""
+import csv
+import datetime
+import io
+import json
 import math
 import pathlib
 from collections.abc import Iterator
-from typing import TextIO
+from typing import Any, TextIO
 
-from .. import svg
+from .. import files, svg
 from ..errors import Wrong
 from ..library import STAGES
 from ..svg import BLUE, GREEN, GREY, ORANGE, drawn_path, text
 from ..theory import duration
+from .contact import Contact
 from .journal import History, lines_of
 from .plan import Retry, moment_of
 from .play import Campaign
 
-RED = "#cf222e"
-# What is drawn of a stage: its colour and how opaque it is.
-COLOURS = dict(zip(STAGES, (
+RED, PURPLE = "#cf222e", "#8250df"
+# What is drawn of a word: its colour and how opaque it is.
+COLOURS = dict(zip((*STAGES, "incomplete", "silent"), (
     (GREY, 0.25), (GREY, 0.45), (GREY, 0.65), (GREY, 0.9), (BLUE, 1), (ORANGE, 0.4), (ORANGE, 0.7), (ORANGE, 1), (GREEN, 1),
-    (RED, 1))))
+    (RED, 1), (PURPLE, 1), (PURPLE, 0.5))))
 A_MINUTE = 60_000
 # A folder is read without its plan: nothing is asked.
 NO_RETRY = Retry(distance=0, tries=1)
 
 
+def counts_of(contacts: list[Contact]) -> str:
+    """How many devices stand where, in order, and why some are left alone."""
+    told = []
+    for word in COLOURS:
+        found = [contact for contact in contacts if contact.word == word]
+        causes = dict.fromkeys(contact.cause for contact in found if contact.cause)
+        if found:
+            told.append(f"{word} {len(found)}" + (f" ({'; '.join(causes)})" if causes else ""))
+    return ", ".join(told)
+
+
 def line_of(campaign: Campaign, is_last: bool = False) -> str:
     """How it stands, in a line."""
-    counts = ", ".join(f"{name} {count}" for name, count in campaign.counts().items())
     left = 0 if is_last else campaign.left()
-    return f"{counts}; fragments {campaign.sent} of {campaign.plan.fragments}" + (f", {duration(left)} left" if left else "")
+    away = campaign.carrier.away_since()
+    return (f"{counts_of(campaign.contacts)}; fragments {campaign.sent} of {campaign.plan.fragments}"
+            + (f", {duration(left)} left" if left else "")
+            + (f"; broker away since {moment_of(away)[11:]}" if away is not None else ""))
 
 
 class Progress:
@@ -65,7 +83,7 @@ class Kept:
     def __init__(self, path: str | pathlib.Path) -> None:
         path = pathlib.Path(path)
         try:
-            text = (path / "journal").read_bytes()
+            text = files.read(path / "journal")
         except OSError as why:
             raise Wrong(f"{why.filename}: {why.strerror}") from None
         self.history = History(lines_of(text, path / "journal"), NO_RETRY)
@@ -74,58 +92,123 @@ class Kept:
 
     def table(self) -> Iterator[str]:
         """A line for the campaign, and one for each device."""
-        yield f"fragments {self.history.number} of {self.history.fragments}, last change {moment_of(self.history.last)}"
-        yield f"{'device':<16}  {'stage':<17}  missing  last heard"
-        for contact in self.history.contacts.values():
+        history = self.history
+        count = "" if history.next_count is None else f", next frame count {history.next_count}"
+        yield f"fragments {history.number} of {history.fragments}{count}, last change {moment_of(history.last)}"
+        why = "  why" if any(contact.why for contact in self.contacts) else ""
+        yield f"{'device':<16}  {'stage':<18}  missing  {'last heard':<23}{why}".rstrip()
+        for contact in self.contacts:
             stage = f"{contact.stage}, {contact.word}" if contact.is_silent else contact.stage
             missing = "-" if contact.missing is None else contact.missing
             heard = "-" if contact.heard_at is None else moment_of(contact.heard_at)
-            yield f"{contact.eui:<16}  {stage:<17}  {missing:>7}  {heard}"
+            yield f"{contact.eui:<16}  {stage:<18}  {missing:>7}  {heard:<23}  {contact.why}".rstrip()
+
+    def text(self) -> str:
+        """The table as a text."""
+        return "".join(line + "\n" for line in self.table())
+
+    @property
+    def contacts(self) -> list[Contact]:
+        return list(self.history.contacts.values())
+
+    # ---- For other programs
+
+    def rows(self) -> list[dict[str, Any]]:
+        """What is known of each device, by names; moments as texts of ISO 8601."""
+        return [{"eui": contact.eui, "stage": contact.stage, "word": contact.word, "since": iso_of(contact.since), "tries": contact.tries,
+                 "missing": contact.missing, "last_heard": iso_of(contact.heard_at), "clock_behind_ms": contact.behind,
+                 "why": contact.why or None} for contact in self.contacts]
+
+    def json(self) -> str:
+        """All that is known, as an object of JSON."""
+        history = self.history
+        opens, closes = history.window or (None, None)
+        return json.dumps({
+            "by": history.carrier, "begin": iso_of(history.begin), "last_change": iso_of(history.last),
+            "window_opens": iso_of(opens), "window_closes": iso_of(closes), "fragments_sent": history.number,
+            "fragments": history.fragments, "next_frame_count": history.next_count, "devices": self.rows()}, indent=1) + "\n"
+
+    def csv(self) -> str:
+        """The devices, as lines of CSV under their names."""
+        rows, text = self.rows(), io.StringIO()
+        writer = csv.DictWriter(text, list(rows[0]), lineterminator="\n")
+        writer.writeheader()
+        writer.writerows(rows)
+        return text.getvalue()
+
+
+def iso_of(t: int | None) -> str | None:
+    """ms of Unix time as a text of ISO 8601."""
+    return None if t is None else moment_of(t).replace(" ", "T", 1).replace(" UTC", "Z")
 
 
 # ---- The picture
 
-LEFT, ACROSS, UPPER, ROW = 146, 600, 84, 18
+LEFT, ACROSS, UPPER, ROW = 146, 600, 102, 18
+# The width of a letter, about, and of a legend's entry.
+LETTER, ENTRY = 6.2, 120
+# Distances of moments on the axis, in s, each with how a moment is written.
+STEPS = {60: (1, 2, 5, 10, 30), 86_400: (60, 120, 300, 600, 1_800, 3_600, 7_200, 14_400, 43_200),
+         31_536_001: (86_400, 172_800, 604_800, 2_592_000, 31_536_000)}
+FORMATS = dict(zip(STEPS, ("%H:%M:%S", "%H:%M", "%Y-%m-%d")))
 
 
 def ticks(begin: int, end: int) -> list[tuple[int, str]]:
-    """Moments on the axis, at round distances, and their words."""
-    steps = [1, 2, 5, 10, 30, 60, 120, 300, 600, 1_800, 3_600, 7_200, 14_400, 43_200, 86_400, 172_800, 604_800, 2_592_000]
-    step = 1000 * next((step for step in steps if (end - begin) <= 8000 * step), 31_536_000)
-    return [(moment, duration(moment - begin) if moment > begin else "0") for moment in range(begin, end + 1, step)]
+    """Moments on the axis, at round times of the day (UTC), and their words."""
+    steps = [(step, FORMATS[below]) for below, steps in STEPS.items() for step in steps]
+    step, form = next(((step, form) for step, form in steps if end - begin <= 8_000 * step), steps[-1])
+    first = -(-begin // (1000 * step)) * 1000 * step
+    return [(moment, datetime.datetime.fromtimestamp(moment // 1000, datetime.timezone.utc).strftime(form))
+            for moment in range(first, end + 1, 1000 * step)]
 
 
 def legend() -> Iterator[str]:
     """What the colours say."""
-    for at, (stage, (colour, opacity)) in enumerate(COLOURS.items()):
-        x, y = LEFT + 120 * (at % 5), 38 + 18 * (at // 5)
+    for at, (word, (colour, opacity)) in enumerate(COLOURS.items()):
+        x, y = LEFT + ENTRY * (at % 5), 38 + 18 * (at // 5)
         yield drawn_path(f"M{x} {y - 4}h16", colour, 10, f' stroke-opacity="{opacity}"')
-        yield text(x + 22, y, stage)
+        yield text(x + 22, y, word)
 
 
-def picture_of(kept: Kept) -> str:
-    """A row a device, its stages over time, and when fragments went out."""
-    begin, last, contacts = kept.history.begin, kept.history.last, list(kept.history.contacts.values())
-    # (somewhat more, so that the last stages are seen)
-    end = last + (last - begin) // 40 + 1
-    bottom = UPPER + ROW * (len(contacts) + 1)
+class Picture:
+    """A row a device, its words over time and why it is not updated; the window, and when fragments went out."""
 
-    def place(t: int) -> float:
-        return LEFT + ACROSS * (t - begin) / (end - begin)
+    def __init__(self, kept: Kept) -> None:
+        self.history, self.contacts = kept.history, kept.contacts
+        # (somewhat more, so that the last stages are seen)
+        self.begin, self.end = kept.history.begin, kept.history.last + (kept.history.last - kept.history.begin) // 40 + 1
+        self.bottom = UPPER + ROW * (len(self.contacts) + 1)
 
-    title = f"A campaign of {len(contacts)} devices and {kept.history.fragments} fragments, from {moment_of(begin)} on"
-    parts = [text(LEFT, 16, title), *legend()]
-    for moment, words in ticks(begin, end):
-        parts.append(drawn_path(f"M{place(moment):.1f} {UPPER}V{bottom}", GREY, 1, ' stroke-opacity="0.4"'))
-        parts.append(text(f"{place(moment):.1f}", bottom + 16, words, "middle"))
-    sent = "".join(f"M{place(t):.1f} {UPPER + 3}v{ROW - 6}" for t in kept.history.fragments_at)
-    parts += [text(LEFT - 8, UPPER + ROW - 5, "fragments", "end"), drawn_path(sent or "M0 0", BLUE, 1)]
-    for row, contact in enumerate(contacts, 1):
-        y = UPPER + ROW * row + ROW // 2
-        parts.append(text(LEFT - 8, y + 4, contact.eui, "end"))
-        untils = [since for _, since in contact.stages[1:]] + [end]
-        for (stage, since), until in zip(contact.stages, untils):
-            colour, opacity = COLOURS[stage]
-            width = max(0.5, place(until) - place(since))
-            parts.append(drawn_path(f"M{place(since):.1f} {y}h{width:.1f}", colour, ROW - 6, f' stroke-opacity="{opacity}"'))
-    return svg.picture(LEFT + ACROSS + 40, bottom + 26, title, parts)
+    def place(self, t: int) -> float:
+        return LEFT + ACROSS * (t - self.begin) / (self.end - self.begin)
+
+    def axis(self) -> Iterator[str]:
+        """Times of the day, and the edges of the window."""
+        for moment, words in ticks(self.begin, self.end):
+            yield drawn_path(f"M{self.place(moment):.1f} {UPPER}V{self.bottom}", GREY, 1, ' stroke-opacity="0.4"')
+            yield text(f"{self.place(moment):.1f}", self.bottom + 16, words, "middle")
+        for edge, words, anchor in zip(self.history.window or (), ("window opens", "closes"), ("end", "start")):
+            if self.begin <= edge <= self.end:
+                yield drawn_path(f"M{self.place(edge):.1f} {UPPER - 4}V{self.bottom}", GREEN, 1, ' stroke-dasharray="5 3"')
+                yield text(f"{self.place(edge):.1f}", UPPER - 8, words, anchor)
+
+    def row(self, number: int, contact: Contact) -> Iterator[str]:
+        y = UPPER + ROW * number + ROW // 2
+        yield text(LEFT - 8, y + 4, contact.eui, "end")
+        untils = [since for _, since in contact.words[1:]] + [self.end]
+        for (word, since), until in zip(contact.words, untils):
+            colour, opacity = COLOURS[word]
+            width = max(0.5, self.place(until) - self.place(since))
+            yield drawn_path(f"M{self.place(since):.1f} {y}h{width:.1f}", colour, ROW - 6, f' stroke-opacity="{opacity}"')
+        if contact.why:
+            yield text(LEFT + ACROSS + 8, y + 4, contact.why)
+
+    def drawn(self) -> str:
+        title = f"A campaign of {len(self.contacts)} devices and {self.history.fragments} fragments, from {moment_of(self.begin)} on"
+        sent = "".join(f"M{self.place(t):.1f} {UPPER + 3}v{ROW - 6}" for t in self.history.fragments_at)
+        parts = [text(LEFT, 16, title), *legend(), *self.axis(),
+                 text(LEFT - 8, UPPER + ROW - 5, "fragments", "end"), drawn_path(sent or "M0 0", BLUE, 1)]
+        for number, contact in enumerate(self.contacts, 1):
+            parts += self.row(number, contact)
+        beside = max(40, round(LETTER * max(len(contact.why) for contact in self.contacts)) + 16)
+        return svg.picture(LEFT + ACROSS + beside, self.bottom + 26, title, parts)

@@ -10,6 +10,7 @@ from ..errors import Wrong
 from ..limits import MAX_ROWS
 from .carrier import Carrier, Uplink
 from .plan import Device, Group, Plan, gps
+from .reckoning import begin_of, refused_by_library
 
 # After an uplink a device of class A hears for the first time, and fetches so many ms later what waits still (FPending).
 FIRST_WINDOW, FETCH = 1_000, 3_000
@@ -137,15 +138,18 @@ class Fleet:
 
 
 class Rehearsal(Carrier):
-    """A fleet in the place of a network server, in a time that is the events'. It begins some requests before the window."""
+    """A fleet in the place of a network server, in a time that is the events'. It begins when the plan has to."""
 
     name, tick = "rehearsal", math.inf
 
     def __init__(self, plan: Plan, calls: library.Library, loss: float, seed: int) -> None:
         if plan.window and plan.window.kind == "B":
             raise Wrong(f"{plan.file}: window.class: a rehearsal has only class C")
-        self.t = plan.window.opens - 15 * plan.retry.distance if plan.window else super().now()
-        self.fleet = Fleet(plan, calls, self.t, plan.retry.distance // 2, loss, seed)
+        refused = plan.window and refused_by_library(plan.window)
+        if refused:
+            raise Wrong(f"{plan.file}: window: a rehearsal has the library's own devices, which refuse {refused}")
+        self.t = begin_of(plan) or super().now()
+        self.fleet = Fleet(plan, calls, self.t, plan.uplink_period, loss, seed)
 
     def now(self) -> int:
         return self.t

@@ -6,7 +6,8 @@ from typing import Any
 
 from .. import fields
 from .chirpstack import ChirpStack as ChirpStack
-from .server import Lost as Lost, Members as Members, Payload as Payload, Refusing as Refusing, Server as Server, Uplink as Uplink
+from .server import (Group as Group, Lost as Lost, Members as Members, Payload as Payload, Refusing as Refusing, Server as Server,
+                     Uplink as Uplink)
 from .things_stack import ThingsStack as ThingsStack
 
 KINDS: tuple[type[Server], ...] = (ChirpStack, ThingsStack)

@@ -6,7 +6,7 @@ import datetime
 import pathlib
 import re
 import socket
-from collections.abc import Callable, Iterable
+from collections.abc import Callable, Iterable, Iterator
 from dataclasses import dataclass
 from typing import Any, ClassVar
 
@@ -43,6 +43,25 @@ class Uplink:
 
 
 @dataclass(frozen=True)
+class Group:
+    """What a plan has of its group, which the network server has to have too. Its next frame count is one of `counts`."""
+
+    address: bytes
+    counts: range
+    is_class_b: bool
+    periodicity: int
+    frequency: int
+    data_rate: int
+    app_key: bytes
+    net_key: bytes
+
+    @property
+    def kind(self) -> str:
+        """The class of its session."""
+        return "B" if self.is_class_b else "C"
+
+
+@dataclass(frozen=True)
 class Payload:
     """What a message carries: which way, port and payload as they stand in it, and why it is no payload for a capture, if so."""
 
@@ -65,6 +84,10 @@ class Payload:
         if len(payload) > MAX_PAYLOAD:
             raise Wrong(f"a payload of {len(payload)} bytes, and not of at most {MAX_PAYLOAD}")
         return payload
+
+
+# What has to be entered: a name of the server's and its value, or a heading without one.
+Entries = Iterator[tuple[str, object]]
 
 
 @dataclass(frozen=True, kw_only=True)
@@ -113,6 +136,16 @@ class Server(abc.ABC):
         """Whether a message names a multicast group."""
         return any([member_of(members, name, str) for name in cls.groups])
 
+    # ---- A group, before a campaign
+
+    @abc.abstractmethod
+    def settings(self, group: Group, region: str, euis: tuple[str, ...]) -> Entries:
+        """What has to be entered there for a group in a region with these devices."""
+
+    def make_group(self, group: Group, region: str, euis: tuple[str, ...]) -> str:
+        """Makes the group over its API: the id that it has there."""
+        raise Wrong(f"{self.name} has no API here that makes a group: enter what settings prints")
+
     # ---- A campaign over MQTT
 
     @property
@@ -135,6 +168,15 @@ class Server(abc.ABC):
 
     def prepare(self) -> None:
         """Reads what it needs beside the plan."""
+
+    def differences(self, group: Group | None, euis: tuple[str, ...]) -> Iterator[str]:
+        """What is otherwise there than in a plan, with both values, as far as it can be asked."""
+        return iter(())
+
+    @property
+    def is_asked(self) -> bool:
+        """Whether `differences` asks for something."""
+        return False
 
     def is_up(self) -> bool:
         """Whether what it has beside the broker answers."""
@@ -185,7 +227,7 @@ def time_of(text: Any, now: int) -> int:
     """ms of Unix time of a text, where it is one of the last day; else now."""
     try:
         t = round(datetime.datetime.fromisoformat(text).timestamp() * 1000)
-    except (TypeError, ValueError, OverflowError):
+    except (TypeError, ValueError, ArithmeticError, OSError):
         return now
     return t if now - A_DAY <= t <= now else now
 

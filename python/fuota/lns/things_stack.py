@@ -4,7 +4,7 @@ from typing import Any
 
 from ..errors import Wrong
 from ..fields import member, word, words
-from .server import Members, Payload, Publish, Server, Uplink, base64_of, member_of, time_of, uplink_of
+from .server import Entries, Group, Members, Payload, Publish, Server, Uplink, base64_of, member_of, time_of, uplink_of
 
 
 @dataclass(frozen=True, kw_only=True)
@@ -34,6 +34,27 @@ class ThingsStack(Server):
             if inner is not None:
                 return Payload(way, inner.get("f_port"), inner.get("frm_payload"))
         return None
+
+    # ---- A group
+
+    def settings(self, group: Group, region: str, euis: tuple[str, ...]) -> Entries:
+        yield "End devices, Register end device, Enter end device specifics manually", None
+        yield "Frequency plan", f"one of {region}"
+        yield "LoRaWAN version", "LoRaWAN Specification 1.0.3"
+        yield "Activation mode", "Define multicast group (ABP & Multicast)"
+        yield "Class capabilities", f"Class {group.kind}"
+        if group.is_class_b:
+            yield "Ping slot periodicity", f"{2 ** group.periodicity} s"
+            yield "Ping slot data rate", group.data_rate
+            yield "Ping slot frequency", group.frequency
+        else:
+            yield "Rx2 data rate", group.data_rate
+            yield "Rx2 frequency", group.frequency
+        yield "Device address", group.address.hex()
+        yield "AppSKey", group.app_key.hex()
+        yield "NwkSKey", group.net_key.hex()
+        yield "Downlink frame counter", group.counts.start
+        yield "End device ID", self.multicast_device or "as server.multicast_device of the plan"
 
     # ---- A campaign
 

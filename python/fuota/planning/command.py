@@ -8,6 +8,7 @@ import tempfile
 from .. import image, words
 from ..errors import Failed, Wrong
 from ..limits import IMAGE_HEAD, MAX_CODED, MAX_DEVICES, MAX_IMAGE, MAX_LINES, MAX_PIECE, MAX_PIECES, MAX_ROWS
+from ..regions import DEFAULT, REGIONS
 from ..theory import chain_of, complete_shares
 from .pictures import curve_picture, time_picture
 from .played import Plan, draw_losses, parted, play
@@ -88,7 +89,7 @@ def campaign(asked: argparse.Namespace, folder: pathlib.Path) -> None:
 def run(asked: argparse.Namespace) -> int:
     """Does what the words ask for, in a folder of its own where they name none."""
     if asked.air is not None:
-        print("\n".join(air_table(plan_of(asked), asked.air / 100)))
+        print("\n".join(air_table(plan_of(asked), asked.air / 100, REGIONS[asked.region])))
     elif asked.scripts:
         asked.scripts.mkdir(exist_ok=True)
         campaign(asked, asked.scripts)
@@ -104,8 +105,9 @@ def parser() -> argparse.ArgumentParser:
     what.add_argument("--loss", metavar="PERCENT", type=words.fraction(0, 99),
                       help="how many fragments of a hundred are lost, from 0 to 99; 12.5 is a percentage too")
     what.add_argument("--air", metavar="PERCENT", type=words.fraction(0.1, 100),
-                      help="in place of --loss, and plays nothing: for each data rate of EU868 how long all fragments take, where so "
-                           "much of the time may be spent on the air, from 0.1 to 100, and the TIMEOUT of a window for them")
+                      help="in place of --loss, and plays nothing: for each data rate of a region how long all fragments take, where "
+                           "so much of the time may be spent on the air, from 0.1 to 100, and the TIMEOUT of a window for them")
+    made.add_argument("--region", choices=tuple(REGIONS), default=DEFAULT, help=f"with --air; {DEFAULT} if left out")
     made.add_argument("--burst", metavar="LENGTH", type=words.fraction(1, MAX_PIECES),
                       help="lost fragments stand in bursts of this length, in the mean; else each is lost independently")
     made.add_argument("--devices", metavar="N", type=words.whole(1, 10_000), default=100, help="1 to 10000; 100 if left out")

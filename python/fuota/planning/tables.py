@@ -3,7 +3,8 @@ import math
 from collections.abc import Iterator
 
 from ..limits import MAX_PIECE, MAX_ROWS
-from ..theory import DATA_RATES, FRAGMENT_HEAD, FRAME, air_time, duration, fragments_within, mean_beyond, time_of
+from ..regions import Region
+from ..theory import FRAGMENT_HEAD, FRAME, air_time, duration, fragments_within, mean_beyond, time_of
 from .played import Plan, Session
 
 SHARES = (50, 90, 99, 99.9)
@@ -67,21 +68,22 @@ def title_of(plan: Plan, loss: float, burst: float | None, seed: int) -> str:
             f" loss {100 * loss:g} %{bursts} seed {seed}")
 
 
-def air_row(plan: Plan, share: float, rate: int) -> str:
+def air_row(plan: Plan, share: float, region: Region, number: int) -> str:
     """A data rate, the longest piece that it carries, and of fragments as the plan's the air time, how many an hour bears, how
     long all of them take, and the TIMEOUT of a window of class C that has this time, where there is one."""
-    longest = DATA_RATES[rate][2] - FRAGMENT_HEAD
+    rate = region.rates[number]
+    longest = rate.longest - FRAGMENT_HEAD
     if plan.size > longest:
-        return f"{rate:9}   {longest:13}          -"
+        return f"{number:9}   {longest:13}          -"
     air = air_time(rate, FRAME + FRAGMENT_HEAD + plan.size)
     takes = time_of(plan.fragments, air / share, air)
     window = next((timeout for timeout in range(16) if 1000 * 2 ** timeout >= takes), "-")
     hour = fragments_within(3_600_000, air / share, air)
-    return f"{rate:9}   {longest:13}   {duration(air):>8}   {hour:7}   {duration(takes):>11}   {window:>7}"
+    return f"{number:9}   {longest:13}   {duration(air):>8}   {hour:7}   {duration(takes):>11}   {window:>7}"
 
 
-def air_table(plan: Plan, share: float) -> Iterator[str]:
+def air_table(plan: Plan, share: float, region: Region) -> Iterator[str]:
     """The lines of the table of air time."""
-    yield f"pieces {plan.pieces} size {plan.size} coded {plan.coded}, on the air {100 * share:g} % of the time"
+    yield f"pieces {plan.pieces} size {plan.size} coded {plan.coded}, on the air {100 * share:g} % of the time in {region.name}"
     yield "data rate   longest piece   air time   an hour           all   TIMEOUT"
-    yield from (air_row(plan, share, rate) for rate in DATA_RATES)
+    yield from (air_row(plan, share, region, number) for number in region.rates)
