@@ -457,6 +457,21 @@ static int session_key_answers(void) {
     return 0;
 }
 
+static int is_request(const fuota_down *down, uint8_t port, const char *bytes, fuota_length length) {
+    return down->port == port && !down->is_group && down->length == length && !memcmp(down->payload, bytes, length);
+}
+
+static int request_answers(void) {
+    fuota_down out = {0};
+    SO(fuota_frag_session_delete(3, &out) == FUOTA_DONE && is_request(&out, 201, "\x03\x03", 2));
+    SO(fuota_mc_group_delete(2, &out) == FUOTA_DONE && is_request(&out, 200, "\x03\x02", 2));
+    SO(fuota_dev_delete_image(0x01020304, &out) == FUOTA_DONE && is_request(&out, 203, "\x05\x04\x03\x02\x01", 5));
+    SO(fuota_force_device_resync(7, &out) == FUOTA_DONE && is_request(&out, 202, "\x03\x07", 2));
+    SO(fuota_frag_session_delete(4, &out) == FUOTA_RANGE && fuota_mc_group_delete(4, &out) == FUOTA_RANGE);
+    SO(fuota_force_device_resync(8, &out) == FUOTA_RANGE && is_request(&out, 202, "\x03\x07", 2));
+    return 0;
+}
+
 static int decode_answers(void) {
     static const uint8_t status[5] = {0x01, 0x02, 0x00, 0x01, 0x00};
     static const char line[] = "FragSessionStatusAns";
@@ -487,5 +502,5 @@ int main(int argc, char **argv) {
         return 2;
     return without_objects() || receiver_answers() || receiver_sizes() || device_answers() || device_sizes()
         || device_outlasts() || device_in_flash() || server_answers(image, length) || server_outlasts(image, length)
-        || session_key_answers() || decode_answers();
+        || session_key_answers() || request_answers() || decode_answers();
 }

@@ -466,6 +466,14 @@ fuota_result fuota_server_frame_count(fuota_server *handle, uint32_t *count);
 void fuota_mc_app_s_key(const uint8_t mc_key[16], uint32_t addr, uint8_t s_key[16]);
 void fuota_mc_net_s_key(const uint8_t mc_key[16], uint32_t addr, uint8_t s_key[16]);
 
+/* Requests to a device by unicast that no campaign makes by itself: it deletes the session of an index, the group of an
+ * id, or the image of a firmware version, which it has received and does not run; or it asks for the time, `count`
+ * times. FUOTA_DONE; FUOTA_RANGE at an index or id above 3 and a count above 7, and then nothing is written. */
+fuota_result fuota_frag_session_delete(uint8_t index, fuota_down *out);
+fuota_result fuota_mc_group_delete(uint8_t id, fuota_down *out);
+fuota_result fuota_dev_delete_image(uint32_t version, fuota_down *out);
+fuota_result fuota_force_device_resync(uint8_t count, fuota_down *out);
+
 /* The most bytes that a server saves: 44, and six for each of 64 devices. */
 #define FUOTA_SAVED_SERVER 428
 

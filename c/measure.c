@@ -108,6 +108,10 @@ static void server_restore(void) {
 }
 static void mc_app_s_key(void) { fuota_mc_app_s_key(plan.key, plan.addr, s_key); }
 static void mc_net_s_key(void) { fuota_mc_net_s_key(plan.key, plan.addr, s_key); }
+static void frag_session_delete(void) { answer = fuota_frag_session_delete(0, &down); }
+static void mc_group_delete(void) { answer = fuota_mc_group_delete(0, &down); }
+static void dev_delete_image(void) { answer = fuota_dev_delete_image(1, &down); }
+static void force_device_resync(void) { answer = fuota_force_device_resync(1, &down); }
 static void library_version(void) { version = fuota_version(); }
 static void library_pointer_bits(void) { version = fuota_pointer_bits(); }
 /* A capture whose last line is nested as deep as JSON may be there. */
@@ -149,7 +153,10 @@ static call calls[] = {
     {server_ledger, "server_ledger", 0}, {server_save, "server_save", 0}, {server_restore, "server_restore", 0},
     {server_frame, "server_frame", 0}, {server_last_status, "server_last_status", 0},
     {server_fragment_number, "server_fragment_number", 0}, {server_frame_count, "server_frame_count", 0},
-    {mc_app_s_key, "mc_app_s_key", 0}, {mc_net_s_key, "mc_net_s_key", 0}, {library_version, "version", 0},
+    {mc_app_s_key, "mc_app_s_key", 0}, {mc_net_s_key, "mc_net_s_key", 0},
+    {frag_session_delete, "frag_session_delete", 0}, {mc_group_delete, "mc_group_delete", 0},
+    {dev_delete_image, "dev_delete_image", 0}, {force_device_resync, "force_device_resync", 0},
+    {library_version, "version", 0},
     {library_pointer_bits, "pointer_bits", 0}, {decode, "decode", 0}, {run, "run", 0}};
 
 enum { CALLS = sizeof calls / sizeof calls[0] };
@@ -242,6 +249,10 @@ static void play(int campaign) {
     made(device_raise);
     made(mc_app_s_key);
     made(mc_net_s_key);
+    made(frag_session_delete);
+    made(mc_group_delete);
+    made(dev_delete_image);
+    made(force_device_resync);
     made(library_version);
     made(library_pointer_bits);
     made(device_save);

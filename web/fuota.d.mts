@@ -446,6 +446,18 @@ export class Library {
   /** McNetSKey of a group, by which its frames have their MIC. Network servers call it McNwkSKey. */
   mcNetSKey(mcKey: Uint8Array, addr: number): Uint8Array;
 
+  /** FragSessionDeleteReq, by which a device deletes the session of an index, 0 to 3. */
+  fragSessionDelete(index: number): Down;
+
+  /** McGroupDeleteReq, by which a device deletes the group of an id, 0 to 3. */
+  mcGroupDelete(id: number): Down;
+
+  /** DevDeleteImageReq, by which a device deletes the image of a firmware version that it has received and does not run. */
+  devDeleteImage(version: number): Down;
+
+  /** ForceDeviceResyncReq, after which a device asks for the time `count` times, 0 to 7. */
+  forceDeviceResync(count: number): Down;
+
   /** The commands of a payload of port 200 to 203, each on a line; `isUp` says that it goes from a device. Throws
    * {@link NoText} where the payload spells none. */
   decode(port: number, isUp: boolean, payload: Uint8Array): string;

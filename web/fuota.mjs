@@ -394,6 +394,28 @@ export class Library {
     return found.value.key;
   }
 
+  fragSessionDelete(index) {
+    return this.#request("frag_session_delete", U8.of("index", index));
+  }
+
+  mcGroupDelete(id) {
+    return this.#request("mc_group_delete", U8.of("id", id));
+  }
+
+  devDeleteImage(version) {
+    return this.#request("dev_delete_image", U32.of("version", version));
+  }
+
+  forceDeviceResync(count) {
+    return this.#request("force_device_resync", U8.of("count", count));
+  }
+
+  #request(name, number) {
+    const down = told(DOWN);
+    isDone(callOf(this, name, number, down));
+    return sent(down.value);
+  }
+
   decode(port, isUp, payload) {
     const direction = BOOL.of("isUp", isUp);
     let room = FIRST_ROOM;
@@ -457,6 +479,12 @@ function callOf({ exports }, name, ...words) {
   }
 }
 
+// Whether there was something, by a number of Answer; an error is thrown.
+function isDone(answer) {
+  if (answer !== Answer.DONE && answer !== Answer.NOTHING) throw new ERRORS[answer]();
+  return answer === Answer.DONE;
+}
+
 // ---- Objects
 
 // An object of the library by its handle, 8 bytes of the module's heap.
@@ -479,9 +507,7 @@ class Handle {
 
   // Makes a call that answers with a number of Answer: whether there was something.
   done(name, ...words) {
-    const answer = this.call(name, ...words);
-    if (answer !== Answer.DONE && answer !== Answer.NOTHING) throw new ERRORS[answer]();
-    return answer === Answer.DONE;
+    return isDone(this.call(name, ...words));
   }
 
   // What a call writes into the struct that comes last; null where there is nothing.

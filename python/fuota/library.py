@@ -69,6 +69,10 @@ uint8_t fuota_server_fragment_number(fuota_server *, uint16_t *);
 uint8_t fuota_server_frame_count(fuota_server *, uint32_t *);
 void fuota_mc_app_s_key(const uint8_t [16], uint32_t, uint8_t [16]);
 void fuota_mc_net_s_key(const uint8_t [16], uint32_t, uint8_t [16]);
+uint8_t fuota_frag_session_delete(uint8_t, fuota_down *);
+uint8_t fuota_mc_group_delete(uint8_t, fuota_down *);
+uint8_t fuota_dev_delete_image(uint32_t, fuota_down *);
+uint8_t fuota_force_device_resync(uint8_t, fuota_down *);
 fuota_length fuota_server_save(fuota_server *, uint8_t *, fuota_length);
 uint8_t fuota_server_restore(fuota_server *, const fuota_plan *, const fuota_plan_device *, fuota_length, const uint8_t *, fuota_length, const uint8_t *, fuota_length, uint8_t *);
 uint8_t fuota_decode(uint8_t, bool, const uint8_t *, fuota_length, uint8_t *, fuota_length, fuota_decoded *);
@@ -457,6 +461,27 @@ class Library:
         found = KEY()
         self.call(name, key_of(mc_key), addr, found)
         return bytes(found)
+
+    def frag_session_delete(self, index: int) -> Down:
+        """FragSessionDeleteReq, by which a device deletes the session of an index, 0 to 3."""
+        return self.request("frag_session_delete", index)
+
+    def mc_group_delete(self, id: int) -> Down:
+        """McGroupDeleteReq, by which a device deletes the group of an id, 0 to 3."""
+        return self.request("mc_group_delete", id)
+
+    def dev_delete_image(self, version: int) -> Down:
+        """DevDeleteImageReq, by which a device deletes the image of a firmware version that it has received and does not run."""
+        return self.request("dev_delete_image", version)
+
+    def force_device_resync(self, count: int) -> Down:
+        """ForceDeviceResyncReq, after which a device asks for the time `count` times, 0 to 7."""
+        return self.request("force_device_resync", count)
+
+    def request(self, name: str, number: int) -> Down:
+        down = Down()
+        self.done(name, number, ctypes.byref(down))
+        return down
 
     def decode(self, port: int, up: bool, payload: bytes) -> str:
         """The commands of a payload of port 200 to 203, each on a line; `NoText` where it spells none."""

@@ -179,6 +179,19 @@ await tried("session keys", () => {
   throws("OutOfRange", () => library.mcNetSKey(key, 2 ** 32), /addr/);
 });
 
+await tried("requests that no campaign makes", () => {
+  const asked = [
+    library.fragSessionDelete(3), library.mcGroupDelete(2), library.devDeleteImage(0x01020304), library.forceDeviceResync(7),
+  ];
+  assert.deepEqual(asked.map(({ port }) => port), [201, 200, 203, 202]);
+  assert.deepEqual(asked.map(({ payload }) => payload), ["0303", "0302", "0504030201", "0307"].map(hex));
+  assert(asked.every(({ isGroup }) => !isGroup));
+  throws("OutOfRange", () => library.fragSessionDelete(4));
+  throws("OutOfRange", () => library.mcGroupDelete(4));
+  throws("OutOfRange", () => library.devDeleteImage(2 ** 32), /version/);
+  throws("OutOfRange", () => library.forceDeviceResync(8));
+});
+
 await tried("texts", () => {
   assert.match(library.decode(201, true, hex("0102000100")), /^FragSessionStatusAns .*\n$/);
   assert.equal(library.decode(201, true, new Uint8Array(0)), "");

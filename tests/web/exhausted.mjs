@@ -70,6 +70,7 @@ tried("device, restored", () => Device.restore(library, config, inMemory, small)
 tried("device, restored in flash", () => Device.restore(library, config, saved, inFlash), freed);
 tried("server", () => new Server(library, plan, keys, image), freed);
 tried("server, restored", () => Server.restore(library, { ...plan, ...GROUP }, keys, image, kept), freed);
+tried("request", () => library.fragSessionDelete(0));
 tried("session key", () => library.mcAppSKey(new Uint8Array(16), 1));
 tried("text", () => library.decode(200, false, new Uint8Array(242)));
 const file = new TextEncoder().encode("01\n");

@@ -9,6 +9,7 @@ mod framing;
 mod last_status;
 mod laws;
 mod plan;
+mod requests;
 mod saving;
 mod sent;
 mod server;

@@ -1,4 +1,5 @@
-use crate::{sys, Bytes};
+use crate::error::done;
+use crate::{sys, Bytes, Error};
 
 /// The most bytes of a payload.
 pub(crate) const MAX: usize = 242;
@@ -62,6 +63,37 @@ impl Downlink {
             via: Via::of(down.is_group, down.addr, down.count),
             payload: Bytes::front(down.payload, down.length),
         }
+    }
+
+    /// FragSessionDeleteReq, by which a device deletes the session of an index. [`Error::Range`] above 3.
+    pub fn frag_session_delete(index: u8) -> Result<Self, Error> {
+        Self::request(|out| sys::fuota_frag_session_delete(index, out))
+    }
+
+    /// McGroupDeleteReq, by which a device deletes the group of an id. [`Error::Range`] above 3.
+    ///
+    /// ```
+    /// let asked = fuota::Downlink::mc_group_delete(2).unwrap();
+    /// assert_eq!((asked.port, asked.payload.as_ref()), (200, &[3, 2][..]));
+    /// ```
+    pub fn mc_group_delete(id: u8) -> Result<Self, Error> {
+        Self::request(|out| sys::fuota_mc_group_delete(id, out))
+    }
+
+    /// DevDeleteImageReq, by which a device deletes the image of a firmware version that it has received and does not run.
+    pub fn dev_delete_image(version: u32) -> Result<Self, Error> {
+        Self::request(|out| sys::fuota_dev_delete_image(version, out))
+    }
+
+    /// ForceDeviceResyncReq, after which a device asks for the time so many times. [`Error::Range`] above 7.
+    pub fn force_device_resync(count: u8) -> Result<Self, Error> {
+        Self::request(|out| sys::fuota_force_device_resync(count, out))
+    }
+
+    fn request(ask: impl FnOnce(&mut sys::Down) -> u8) -> Result<Self, Error> {
+        let mut out = Self::empty();
+        done(ask(&mut out))?;
+        Ok(Self::of(&out))
     }
 
     pub(crate) fn fields(&self) -> sys::Down {

@@ -124,6 +124,10 @@ unsafe extern "C" {
     pub safe fn fuota_server_frame_count(handle: &Server, count: &mut u32) -> u8;
     pub safe fn fuota_mc_app_s_key(mc_key: &[u8; 16], addr: u32, s_key: &mut [u8; 16]);
     pub safe fn fuota_mc_net_s_key(mc_key: &[u8; 16], addr: u32, s_key: &mut [u8; 16]);
+    pub safe fn fuota_frag_session_delete(index: u8, out: &mut Down) -> u8;
+    pub safe fn fuota_mc_group_delete(id: u8, out: &mut Down) -> u8;
+    pub safe fn fuota_dev_delete_image(version: u32, out: &mut Down) -> u8;
+    pub safe fn fuota_force_device_resync(count: u8, out: &mut Down) -> u8;
     fn fuota_server_save(handle: &Server, into: *mut u8, room: u64) -> u64;
     fn fuota_server_restore(
         handle: &mut Server,

@@ -121,6 +121,23 @@ fn session_keys_are_those_of_another_aes() {
 }
 
 #[test]
+fn requests_that_no_campaign_makes_are_those_of_the_tables() {
+    let asked = [
+        (Downlink::frag_session_delete(3), 201, &[3, 3][..]),
+        (Downlink::mc_group_delete(2), 200, &[3, 2]),
+        (Downlink::dev_delete_image(0x0102_0304), 203, &[5, 4, 3, 2, 1]),
+        (Downlink::force_device_resync(7), 202, &[3, 7]),
+    ];
+    for (down, port, bytes) in asked {
+        let down = down.unwrap();
+        assert_eq!((down.port, down.via, &down.payload[..]), (port, Via::Unicast, bytes));
+    }
+    assert_eq!(Downlink::frag_session_delete(4), Err(Error::Range));
+    assert_eq!(Downlink::mc_group_delete(4), Err(Error::Range));
+    assert_eq!(Downlink::force_device_resync(8), Err(Error::Range));
+}
+
+#[test]
 fn fragments_end() {
     let mut server = Server::new(&PLAN, &[key()], &image()).unwrap();
     let mut count = 0;
