@@ -10,6 +10,7 @@ pub mod Progress
 pub mod Lines
 pub mod Framing
 pub mod Exchanging
+pub mod EachUpdating
 pub mod OnceAtServer
 pub mod WorkedExchange
 pub mod WorkedStages

@@ -1,5 +1,6 @@
 //! Laws about the definitions, each the contract of a function with an empty body.
 
+ghost use Rattle.exchange_laws.specs.EachUpdating.{EachAnswersUpdate};
 ghost use Rattle.exchange_laws.specs.Moving.{ExchangesMove};
 ghost use Rattle.exchange_laws.specs.OnceAtServer.{MovesOnceAtServer};
 ghost use Rattle.exchange_laws.specs.WorkedExchange.{WorkedExchange};
@@ -27,6 +28,12 @@ pub fn an_exchange_moves_a_campaign_on()
 /// status is asked for.
 pub fn a_device_that_answers_is_updated()
     ensures { AnswersUpdate }
+{}
+
+/// The same of each of two campaigns that share a script, for any two images and any accepted script: a device of either that suits
+/// its plan, and that answers what its server asks, is updated and runs that campaign's image.
+pub fn each_device_that_answers_is_updated()
+    ensures { EachAnswersUpdate }
 {}
 
 /// For any server and any uplink that a device makes: where it has moved the device's stage, it moves no stage when it comes again,
