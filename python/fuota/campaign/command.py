@@ -91,6 +91,7 @@ def parser() -> argparse.ArgumentParser:
     run_words = of_folder(of_plan(way("run", run, "runs the campaign over the network server of the plan")))
     run_words.add_argument("--pipe", action="store_true",
                            help="lines of JSON on standard input and output in the place of a network server")
+    run_words.add_argument("--begin", action="store_true", help="the window begins, however many devices are ready")
     run_words.add_argument("--simulated", action="store_true", help="with --pipe: the time is that of the lines that are read")
     status_words = way("status", status, "says how the campaign of a folder stands")
     status_words.add_argument("folder", metavar="FOLDER", type=pathlib.Path)
@@ -178,10 +179,10 @@ def run(asked: argparse.Namespace) -> int:
     if plan.exposed:
         LOG.warning("%s", plan.exposed)
     if asked.pipe:
-        return played(plan, calls, asked.folder, partial(Pipe, asked.simulated), Progress(sys.stderr))
+        return played(plan, calls, asked.folder, partial(Pipe, asked.simulated), Progress(sys.stderr), asked.begin)
     server = server_of(plan, ", and no --pipe")
     client = "fuota-" + hashlib.sha256(os.fsencode(os.path.realpath(asked.folder))).hexdigest()[:16]
-    return played(plan, calls, asked.folder, partial(Mqtt, server, client), Progress(sys.stdout))
+    return played(plan, calls, asked.folder, partial(Mqtt, server, client), Progress(sys.stdout), asked.begin)
 
 
 def calls_of(path: str | None) -> library.Library:
@@ -191,14 +192,15 @@ def calls_of(path: str | None) -> library.Library:
         raise Wrong(f"the library: {why}; a wheel of fuota has it, and tools/c_library makes it") from None
 
 
-def played(plan: Plan, calls: library.Library, path: pathlib.Path, way: Callable[[], Carrier], shown: Progress) -> int:
+def played(plan: Plan, calls: library.Library, path: pathlib.Path, way: Callable[[], Carrier], shown: Progress,
+           is_forced: bool = False) -> int:
     """Plays a campaign to its end; of a rehearsal, which takes no time, only the end is shown."""
     with contextlib.ExitStack() as open_things:
         folder = Folder(path)
         open_things.callback(folder.close)
         carrier = way()
         open_things.callback(carrier.close)
-        campaign = Campaign(plan, folder, carrier, calls)
+        campaign = Campaign(plan, folder, carrier, calls, is_forced)
         open_things.callback(shown.close)
         while campaign.step():
             if not isinstance(carrier, Rehearsal):

@@ -55,6 +55,11 @@ class Contact:
         return self.standing is Standing.SILENT
 
     @property
+    def is_ready(self) -> bool:
+        """Whether it is set up for the window: it waits for fragments, or heard them all."""
+        return self.stage not in (*SETUP, "refused")
+
+    @property
     def is_done(self) -> bool:
         return self.stage in ("updated", "refused")
 
@@ -143,6 +148,14 @@ class Contact:
 
     def ask_anew(self, t: int) -> None:
         self.tries, self.due, self.standing = 0, t, Standing.ASKED
+
+    def start_over(self, t: int) -> None:
+        """It is asked from the first stage on, for another window."""
+        self.stage, self.missing, self.short = "version", None, 0
+        self.refused_at, self.refusal, self.bits = "", "", None
+        self.ask_anew(t)
+        if self.word != self.words[-1][0]:
+            self.words.append((self.word, t))
 
     def resume(self) -> None:
         """A plan may allow more tries than when it was given up."""

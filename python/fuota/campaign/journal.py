@@ -3,6 +3,7 @@ import json
 import logging
 import os
 import pathlib
+from dataclasses import dataclass
 from typing import Any
 
 from ..errors import Wrong
@@ -61,6 +62,18 @@ def lines_of(text: bytes, path: pathlib.Path) -> list[Line]:
     return found
 
 
+@dataclass
+class KeptWindow:
+    """A window of a campaign, in ms of Unix time. As it opened so many devices were ready, of so many needed, and it was decided to
+    `begin`, to `wait` for the next window, or to `ask`; None where nothing was decided."""
+
+    opens: int
+    closes: int
+    decided: str | None = None
+    ready: int | None = None
+    needed: int | None = None
+
+
 class History:
     """What a journal tells of a campaign: how it began, its devices, and what went out. A campaign that goes on hands each
     line that it writes to `take` too."""
@@ -73,8 +86,8 @@ class History:
         # How many fragments were taken from the server.
         self.number = 0
         self.begin, self.last = 0, 0
-        # The window's begin and end, and the group's next frame count; none where the journal tells none.
-        self.window: tuple[int, int] | None = None
+        # The windows so far, and the group's next frame count; none where the journal tells none.
+        self.windows: list[KeptWindow] = []
         self.next_count: int | None = None
         # When fragments went out; and by unicast and to the group the last payload's moment and its ms on the air.
         self.fragments_at: list[int] = []
@@ -94,7 +107,10 @@ class History:
             self.index, self.fragments = line["index"], line["fragments"]
             self.contacts = {eui: Contact(number, eui, self.begin, self.retry) for number, eui in enumerate(line["devices"], 1)}
         if "opens" in line:
-            self.window, self.next_count = (line["opens"], line["closes"]), line["first"]
+            self.take_window(line)
+        last = self.last_window
+        if "decided" in line and last:
+            last.decided, last.ready, last.needed = line["decided"], line["ready"], line["needed"]
         for name in ("count", "given"):
             if name in line:
                 self.next_count = max(self.next_count or 0, line[name] + 1)
@@ -110,6 +126,23 @@ class History:
         contact = self.contacts.get(line.get("device", ""))
         if contact:
             contact.take(line)
+
+    @property
+    def last_window(self) -> KeptWindow | None:
+        return self.windows[-1] if self.windows else None
+
+    @property
+    def window(self) -> tuple[int, int] | None:
+        """Begin and end of the last window."""
+        return (self.windows[-1].opens, self.windows[-1].closes) if self.windows else None
+
+    def take_window(self, line: Line) -> None:
+        """A window comes: the first one in the first line, or one in the place of another, for which all devices are asked anew."""
+        self.windows.append(KeptWindow(line["opens"], line["closes"]))
+        self.next_count = line.get("first", self.next_count)
+        if len(self.windows) > 1:
+            for contact in self.contacts.values():
+                contact.start_over(line["t"])
 
     def take_copy(self, line: Line) -> None:
         """A fragment went out, by unicast where it names a device."""

@@ -1,22 +1,20 @@
 """A campaign, step by step: what goes out when. What is sent, and what an answer means, is the library's server's."""
 import math
-from collections.abc import Callable, Iterator
+from collections.abc import Iterator
 from functools import partial
 from typing import Any
 
 from .. import library
-from ..errors import Wrong
-from .carrier import LOG, Carrier, Lost, Uplink
+from .carrier import Carrier, Lost, Uplink
 from .contact import SETUP, Contact
-from .folder import Folder, first_server
+from .folder import Folder
 from .heard import clock_error, missing_in, texts_of
-from .journal import VERSION, History, Line
+from .journal import Line
+from .opening import Action, Opening
 from .plan import Plan, gps
-from .reckoning import lateness, unfit
 
 # The ms until a network server that did not take a payload is tried again: the first time, and at most.
 FIRST_HOLD, LONGEST_HOLD = 1_000, 60_000
-Action = tuple[float, Callable[[], None]]
 
 
 class Pace:
@@ -39,120 +37,16 @@ class Pace:
         self.at = {way: max(at, t) for way, at in self.at.items()}
 
 
-class Campaign:
-    """A campaign over a carrier, kept in a folder."""
+class Campaign(Opening):
+    """A campaign over a carrier, kept in a folder; with `is_forced` the window begins however many devices are ready."""
 
-    def __init__(self, plan: Plan, folder: Folder, carrier: Carrier, calls: library.Library | None = None) -> None:
-        self.plan, self.folder, self.carrier, self.calls = plan, folder, carrier, library.library_of(calls)
-        self.hold = 0
-        self.copies: list[tuple[Contact, int, library.Down]] = []
-        self.history = History(folder.journal.lines, plan.retry)
+    def __init__(self, plan: Plan, folder: Folder, carrier: Carrier, calls: library.Library | None = None,
+                 is_forced: bool = False) -> None:
+        super().__init__(plan, folder, carrier, calls)
+        self.is_forced, self.hold = is_forced, 0
         self.pace = Pace(plan, self.history.sent)
-        self.server = folder.server_of(plan, self.calls)
-        self.begin()
-
-    # ---- Begun, and begun again
-
-    def begin(self) -> None:
-        """Holds plan and carrier against the journal, and notes the begin."""
-        now = self.carrier.now()
-        euis = [device.eui for device in self.plan.devices]
-        is_new = not self.history.contacts
-        if not is_new and (list(self.history.contacts), self.history.carrier) != (euis, self.carrier.name):
-            raise Wrong(f"{self.folder.path}: its campaign was begun with other devices, or by {self.history.carrier}")
-        if not self.folder.has_server:
-            self.refuse_unfit(now)
-        self.carrier.hold(self.plan, is_new, self.calls)
-        self.keep()
-        if is_new:
-            self.note(version=VERSION, devices=euis, by=self.carrier.name, index=self.plan.index, fragments=self.plan.fragments,
-                      **self.begin_members())
-        else:
-            self.note(again=True, number=self.sent)
-        for contact in self.contacts:
-            contact.resume()
-            # (what was kept of the server may be a line ahead of the journal)
-            told = self.stage_of(contact)
-            if contact.stage != told["stage"]:
-                self.note(device=contact.eui, **told)
-        self.copies = self.copies_left()
-
-    def begin_members(self) -> dict[str, int]:
-        """What the first line of the journal tells of a group and its window."""
-        group, window = self.plan.group, self.plan.window
-        return {"first": group.first, "opens": window.opens, "closes": window.closes} if group and window else {}
-
-    def copies_left(self) -> list[tuple[Contact, int, library.Down]]:
-        """By unicast, the copies of the last fragment that had not gone out as the command ended."""
-        number = self.sent
-        has_it = self.history.copied_to if self.history.copied == number else set()
-        left = [contact for contact in self.contacts if contact.stage == "status" and contact.eui not in has_it]
-        if self.plan.group or not number or not left:
-            return []
-        down = self.fragment(number)
-        return [(contact, number, down) for contact in left]
-
-    def fragment(self, number: int) -> library.Down:
-        """A fragment that was taken from the server before. It hangs on plan and image alone: a server at its start, which is
-        never kept, gives it once more. By unicast no frame count is spent by that."""
-        with first_server(self.plan, self.calls) as server:
-            downs = [server.next_fragment() for _ in range(number)]
-        return self.given(downs[-1])
-
-    def given(self, down: library.Down | None) -> library.Down:
-        """What the server gave, which has to be something."""
-        if down is None:
-            raise Wrong(f"{self.folder.path}: the server has nothing to send where it should")
-        return down
-
-    def refuse_unfit(self, now: int) -> None:
-        """A campaign that can't end well is not begun."""
-        fault = unfit(self.plan, now)
-        if fault:
-            raise Wrong(f"{self.plan.file}: {fault}")
-        late = lateness(self.plan, now)
-        if late:
-            LOG.warning("%s", late)
-
-    @property
-    def contacts(self) -> list[Contact]:
-        return list(self.history.contacts.values())
-
-    def stage_of(self, contact: Contact) -> dict[str, Any]:
-        """Where a device stands, as the journal has it: a refused one with the stage and the bits of its refusal."""
-        stage = self.server.ledger(contact.number)
-        if stage.stage != library.StageKind.STOPPED:
-            return {"stage": stage.word}
-        return {"stage": stage.word, "request": library.Request(stage.request).word, "bits": stage.bits}
-
-    def keep(self) -> None:
-        self.folder.keep(self.server.save())
-
-    def note(self, **told: Any) -> None:
-        """Writes a line of the journal, and takes over what it says."""
-        line = {"t": self.carrier.now(), **told}
-        self.folder.journal.write(line)
-        self.history.take(line)
 
     # ---- What is to do
-
-    @property
-    def sent(self) -> int:
-        """How many fragments were taken from the server."""
-        return self.server.fragment_number() - 1
-
-    @property
-    def group_payloads(self) -> int:
-        """How many payloads were taken for the group."""
-        return self.server.frame_count() - (self.plan.group.first if self.plan.group else 0)
-
-    def within(self, moment: float) -> float | None:
-        """The moment, or the window's begin if that is later; None after the window's end."""
-        window = self.plan.window
-        if window is None:
-            return moment
-        moment = max(moment, window.opens + window.guard)
-        return moment if moment < window.closes - window.guard else None
 
     def is_over(self, moment: float) -> bool:
         """Whether no fragment goes out any more: none is left, or the window is past."""
@@ -161,6 +55,9 @@ class Campaign:
     def next_action(self) -> Action | None:
         """When something is to do, and what; None where nothing is any more."""
         now = self.carrier.now()
+        if self.decided == "wait":
+            later = self.later()
+            return (now, partial(self.move_to, later)) if later else None
         to_all, to_each = (max(now, self.pace.at[is_group]) for is_group in (self.plan.group is not None, False))
         fragments = [*self.to_all(to_all)]
         requests = [*self.to_each(to_each, self.is_over(to_all) and not self.copies)]
@@ -181,6 +78,8 @@ class Campaign:
         moment = self.within(free)
         if self.copies:
             yield free, self.send_copy
+        elif not self.is_begun:
+            yield self.opening()
         elif moment is not None and not self.is_over(free):
             is_settled = all(contact.stage not in SETUP or contact.is_silent for contact in self.contacts)
             if is_awaited and (is_settled or self.plan.group):

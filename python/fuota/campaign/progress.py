@@ -15,6 +15,7 @@ from ..svg import BLUE, GREEN, GREY, ORANGE, drawn_path, text
 from ..theory import duration
 from .contact import Contact
 from .journal import History, lines_of
+from .opening import decision_of
 from .plan import Retry, moment_of
 from .play import Campaign
 
@@ -43,8 +44,9 @@ def line_of(campaign: Campaign, is_last: bool = False) -> str:
     """How it stands, in a line."""
     left = 0 if is_last else campaign.left()
     away = campaign.carrier.away_since()
+    notice = campaign.notice()
     return (f"{counts_of(campaign.contacts)}; fragments {campaign.sent} of {campaign.plan.fragments}"
-            + (f", {duration(left)} left" if left else "")
+            + (f", {duration(left)} left" if left else "") + (f"; {notice}" if notice else "")
             + (f"; broker away since {moment_of(away)[11:]}" if away is not None else ""))
 
 
@@ -95,6 +97,9 @@ class Kept:
         history = self.history
         count = "" if history.next_count is None else f", next frame count {history.next_count}"
         yield f"fragments {history.number} of {history.fragments}{count}, last change {moment_of(history.last)}"
+        for window in history.windows:
+            if window.decided:
+                yield decision_of(window, len(self.contacts))
         why = "  why" if any(contact.why for contact in self.contacts) else ""
         yield f"{'device':<16}  {'stage':<18}  missing  {'last heard':<23}{why}".rstrip()
         for contact in self.contacts:
@@ -126,7 +131,9 @@ class Kept:
         return json.dumps({
             "by": history.carrier, "begin": iso_of(history.begin), "last_change": iso_of(history.last),
             "window_opens": iso_of(opens), "window_closes": iso_of(closes), "fragments_sent": history.number,
-            "fragments": history.fragments, "next_frame_count": history.next_count, "devices": self.rows()}, indent=1) + "\n"
+            "fragments": history.fragments, "next_frame_count": history.next_count,
+            "windows": [{**vars(window), "opens": iso_of(window.opens), "closes": iso_of(window.closes)} for window in history.windows],
+            "devices": self.rows()}, indent=1) + "\n"
 
     def csv(self) -> str:
         """The devices, as lines of CSV under their names."""
@@ -187,10 +194,18 @@ class Picture:
         for moment, words in ticks(self.begin, self.end):
             yield drawn_path(f"M{self.place(moment):.1f} {UPPER}V{self.bottom}", GREY, 1, ' stroke-opacity="0.4"')
             yield text(f"{self.place(moment):.1f}", self.bottom + 16, words, "middle")
-        for edge, words, anchor in zip(self.history.window or (), ("window opens", "closes"), ("end", "start")):
-            if self.begin <= edge <= self.end:
-                yield drawn_path(f"M{self.place(edge):.1f} {UPPER - 4}V{self.bottom}", GREEN, 1, ' stroke-dasharray="5 3"')
-                yield text(f"{self.place(edge):.1f}", UPPER - 8, words, anchor)
+        for window in self.history.windows:
+            if window.decided == "wait":
+                yield from self.edge(window.opens, "passed over", "end", GREY)
+            else:
+                yield from self.edge(window.opens, "window opens", "end", GREEN)
+                yield from self.edge(window.closes, "closes", "start", GREEN)
+
+    def edge(self, moment: int, words: str, anchor: str, colour: str) -> Iterator[str]:
+        """An edge of a window, where it is in the picture."""
+        if self.begin <= moment <= self.end:
+            yield drawn_path(f"M{self.place(moment):.1f} {UPPER - 4}V{self.bottom}", colour, 1, ' stroke-dasharray="5 3"')
+            yield text(f"{self.place(moment):.1f}", UPPER - 8, words, anchor)
 
     def row(self, number: int, contact: Contact) -> Iterator[str]:
         y = UPPER + ROW * number + ROW // 2

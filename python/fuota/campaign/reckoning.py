@@ -1,4 +1,5 @@
 """What a plan comes to: how long it takes, by when it has to begin, and what `check` says of it."""
+import itertools
 import math
 from collections.abc import Iterator
 from dataclasses import dataclass
@@ -75,6 +76,11 @@ def unfit(plan: Plan, now: int) -> str | None:
     fault = plan.does_not_fit()
     if fault:
         return f"window: {fault}"
+    return unreached(plan, now) or unreached_again(plan)
+
+
+def unreached(plan: Plan, now: int) -> str | None:
+    """Why no device can be ready from now on as the window opens, with the field first; None where one can."""
     if plan.window is None:
         return None
     if plan.window.opens <= now:
@@ -83,6 +89,17 @@ def unfit(plan: Plan, now: int) -> str | None:
     if least > left:
         return (f"window.start: the window opens in {duration(left)}, and the set-up takes {duration(least)} or more: take a later "
                 "window, a higher pace.unicast_data_rate, or fewer devices")
+    return None
+
+
+def unreached_again(plan: Plan) -> str | None:
+    """Why a further start of the window comes too soon after the one before it, with the field first; None where none does."""
+    least = set_up_of(plan).least
+    for before, window in itertools.pairwise(plan.windows):
+        left = window.opens - before.opens - before.guard
+        if least > left:
+            return (f"window.again: the window of {moment_of(window.opens)} opens {duration(left)} after the one before it may be passed "
+                    f"over, and the set-up takes {duration(least)} or more")
     return None
 
 
@@ -112,6 +129,7 @@ def lines_of(plan: Plan, now: int) -> Iterator[str]:
         yield (f"window: class {window.kind}, from {moment_of(window.opens)} on for {duration(window.length)}, on "
                f"{window.frequency / 1e6:g} MHz at data rate {window.data_rate}")
         has = f", the window has {duration(window.length - 2 * window.guard)}"
+        yield from ready_lines(plan, window)
         yield from region_lines(plan, window)
     air = plan.fragment_air
     yield f"air: {duration(air)} a fragment, the next one {duration(plan.distance(air))} after it"
@@ -121,6 +139,16 @@ def lines_of(plan: Plan, now: int) -> Iterator[str]:
     yield f"time: {plan.does_not_fit() or f'the fragments take {duration(plan.need)}{has}'}"
     if not plan.does_not_fit():
         yield end_line(plan)
+
+
+OTHERWISE = {"begin": "the window begins all the same", "wait": "it is passed over", "ask": "it waits for run --begin"}
+
+
+def ready_lines(plan: Plan, window: Window) -> Iterator[str]:
+    """How many devices have to be ready as the window opens, and what is done otherwise."""
+    if window.otherwise:
+        again = "".join(f", again {moment_of(later.opens)}" for later in plan.windows[1:])
+        yield f"ready: {plan.needed} of {len(plan.devices)} devices, else {OTHERWISE[window.otherwise]}{again}"
 
 
 def region_lines(plan: Plan, window: Window) -> Iterator[str]:
