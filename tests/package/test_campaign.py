@@ -446,7 +446,7 @@ class Stub:
         self.carrier, self.left, self.sent = self, lambda: left, 3
         self.now, self.contacts = lambda: now, [types.SimpleNamespace(word=word, cause=None) for word in ("updated", "status", "updated")]
         self.away_since, self.notice = lambda: away, lambda: ""
-        self.plan = types.SimpleNamespace(fragments=9)
+        self.plan = types.SimpleNamespace(fragments=9, reserve=0)
 
 
 def shown_on(stream):

@@ -89,7 +89,7 @@ def test_exports(call, tmp_path):
     told = json.loads(call("fuota-campaign", "status", "state", "--json").said)
     devices = told.pop("devices")
     assert told == {"by": "pipe", "begin": "2031-05-06T21:00:00Z", "last_change": "2031-05-06T21:09:00Z", "fragments_sent": 1,
-                    "fragments": 26, "next_frame_count": 108, "window_opens": "2031-05-06T22:00:00Z", "window_closes": "2031-05-06T22:17:04Z",
+                    "fragments": 26, "reserve": 0, "rounds": 0, "next_frame_count": 108, "window_opens": "2031-05-06T22:00:00Z", "window_closes": "2031-05-06T22:17:04Z",
                     "windows": [{"opens": "2031-05-06T22:00:00Z", "closes": "2031-05-06T22:17:04Z", "decided": None, "ready": None,
                                  "needed": None}]}
     assert devices[0] == {"eui": EUIS[0], "stage": "refused", "word": "refused", "since": "2031-05-06T21:01:00Z", "tries": 0,

@@ -61,9 +61,10 @@ class Begun:
             LOG.warning("%s", told_of(euis, "the network server never heard" if is_new else "no answer so far of"))
 
     def begin_members(self) -> dict[str, int]:
-        """What the first line of the journal tells of a group and its window."""
+        """What the first line of the journal tells of a reserve, and of a group and its window."""
         group, window = self.plan.group, self.plan.window
-        return {"first": group.first, "opens": window.opens, "closes": window.closes} if group and window else {}
+        told = {"reserve": self.plan.reserve} if self.plan.reserve else {}
+        return told | ({"first": group.first, "opens": window.opens, "closes": window.closes} if group and window else {})
 
     def copies_left(self) -> list[tuple[Contact, int, library.Down]]:
         """By unicast, the copies of the last fragment that had not gone out as the command ended."""

@@ -34,9 +34,9 @@ class Contact:
         # Its words over time, each with its moment.
         self.words = [("version", since)]
         self.tries, self.due = 0, 0
-        # How many pieces it missed at last, how often it did so once sending had ended, and when it was heard.
+        # How many pieces it missed at last, how often it did so once sending had ended, when it told so, and when it was heard.
         self.missing: int | None = None
-        self.short = 0
+        self.short, self.told_at = 0, 0
         self.heard_at: int | None = None
         # The stage at which it refused, with the bits and the text of its answer; and the ms that its clock was behind, or, where it
         # took the window for past, that it was ahead at least.
@@ -128,8 +128,10 @@ class Contact:
         if line.get("sent") == "answer":
             self.answered_at = t
         if "missing" in line:
-            self.missing = line["missing"]
+            self.missing, self.told_at = line["missing"], t
             self.short += bool(line["over"] and line["missing"] > 0)
+            # (what it waits for now is a fragment)
+            self.tries = self.tries if line["over"] else 0
         if line.get("back"):
             self.ask_anew(t)
         if self.word != self.words[-1][0]:

@@ -82,15 +82,21 @@ class History:
         self.retry = retry
         self.contacts: dict[str, Contact] = {}
         self.carrier: str | None = None
-        self.index, self.fragments = 0, 0
+        self.index, self.fragments, self.reserve = 0, 0, 0
+        # The rounds of the reserve, and how many fragments go out up to the end of the last one.
+        self.rounds, self.until = 0, 0
         # How many fragments were taken from the server.
         self.number = 0
         self.begin, self.last = 0, 0
         # The windows so far, and the group's next frame count; none where the journal tells none.
         self.windows: list[KeptWindow] = []
         self.next_count: int | None = None
-        # When fragments went out; and by unicast and to the group the last payload's moment and its ms on the air.
+        # When planned fragments went out, and those of the reserve; when the last one did; and by unicast and to the group the last payload's moment and its ms on the air.
         self.fragments_at: list[int] = []
+        self.reserve_at: list[int] = []
+        self.fragment_at = 0
+        # When all devices were asked at once what they miss, and how often since the last fragment.
+        self.status_at, self.asked = 0, 0
         self.sent: dict[bool, tuple[int, float]] = {}
         # The fragment that went out last by unicast, and the devices that it went to.
         self.copied, self.copied_to = 0, set[str]()
@@ -104,7 +110,7 @@ class History:
         self.last = line["t"]
         if "devices" in line:
             self.begin, self.carrier = line["t"], line["by"]
-            self.index, self.fragments = line["index"], line["fragments"]
+            self.index, self.fragments, self.reserve = line["index"], line["fragments"], line.get("reserve", 0)
             self.contacts = {eui: Contact(number, eui, self.begin, self.retry) for number, eui in enumerate(line["devices"], 1)}
         if "opens" in line:
             self.take_window(line)
@@ -114,10 +120,15 @@ class History:
         for name in ("count", "given"):
             if name in line:
                 self.next_count = max(self.next_count or 0, line[name] + 1)
+        if "until" in line:
+            self.rounds, self.until = self.rounds + 1, line["until"]
         if "number" in line:
             self.number = line["number"]
+        if line.get("sent") == "status":
+            self.status_at, self.asked = line["t"], self.asked + 1
         if line.get("sent") == "fragment":
-            self.fragments_at.append(line["t"])
+            (self.fragments_at if line["number"] <= self.fragments else self.reserve_at).append(line["t"])
+            self.fragment_at, self.asked = line["t"], 0
             self.take_copy(line)
         if "air" in line:
             self.sent["count" in line] = line["t"], line["air"]

@@ -3,12 +3,12 @@ import math
 from collections.abc import Callable
 
 from ..theory import duration
-from .begun import Begun
 from .carrier import LOG
 from .folder import first_server
 from .journal import KeptWindow
 from .plan import Plan, moment_of
 from .reckoning import unreached
+from .sending import Sending
 from .silence import never_answered, told_of
 
 Action = tuple[float, Callable[[], None]]
@@ -21,10 +21,8 @@ def decision_of(window: KeptWindow, count: int) -> str:
     return f"window of {moment_of(window.opens)}: {told}, with {window.ready} of {count} devices ready and {window.needed} needed"
 
 
-class Opening(Begun):
-    """A campaign up to the begin of its window, which somebody may have forced."""
-
-    is_forced = False
+class Opening(Sending):
+    """A campaign up to the begin of its window."""
 
     @property
     def ready(self) -> int:

@@ -38,6 +38,7 @@ class Plan:
     retry: Retry
     server: lns.Server | None
     devices: tuple[Device, ...]
+    reserve: int = 0
 
     @property
     def pieces(self) -> int:
@@ -45,7 +46,19 @@ class Plan:
 
     @property
     def fragments(self) -> int:
+        """How many fragments are planned; those in reserve come on top."""
         return self.pieces + self.coded
+
+    @property
+    def in_all(self) -> int:
+        """How many fragments there are with the reserve."""
+        return self.fragments + self.reserve
+
+    @property
+    def last_count(self) -> int:
+        """The last frame count that the group needs: for each fragment, a request for the status, and one more for each round of the
+        reserve, of which each has a fragment at least."""
+        return self.group.first + self.fragments + 2 * self.reserve if self.group else 0
 
     def air(self, length: int, is_group: bool) -> float:
         """The ms that a payload is on the air."""
@@ -95,7 +108,7 @@ class Plan:
 
     def for_library(self) -> library.Plan:
         """The plan as the library takes it."""
-        told: dict[str, Any] = {"frag_size": self.size, "parity": self.coded, "index": self.index}
+        told: dict[str, Any] = {"frag_size": self.size, "parity": self.coded + self.reserve, "index": self.index}
         if self.group and self.window:
             group, window = self.group, self.window
             told |= {"has_group": True, "addr": group.number, "min": group.first, "max": group.end, "id": group.id,
@@ -160,7 +173,8 @@ def read_plan(path: str | pathlib.Path, has_group: bool = True) -> Plan:
     server = None if told.server is None else lns.read(place.inner("server"), told.server, has_group and told.group is not None)
     loss = None if told.fragments.loss is None else told.fragments.loss / 100
     plan = Plan(place.file, made, REGIONS[told.region], told.fragments.size, coded, loss, told.fragments.index, told.group, told.window,
-                told.pace, told.retry, server, told.devices)
+                told.pace, told.retry, server, told.devices, told.fragments.reserve)
+    hold_reserve(plan, place)
     hold_region(plan, place)
     hold_devices(plan, place)
     hold_retry(plan, place)
@@ -190,6 +204,13 @@ def coded_for(fragments: Fragments, pieces: int, place: Place) -> int:
         raise place.wrong(f"{fragments.share:g} % of the devices are not complete with {MAX_CODED} coded fragments: take more "
                           "rows, longer pieces, or a smaller share", "share")
     return found
+
+
+def hold_reserve(plan: Plan, place: Place) -> None:
+    """Refuses more coded fragments than there are, those in reserve with them."""
+    if plan.coded + plan.reserve > MAX_CODED:
+        raise place.wrong(f"{plan.coded} coded fragments and {plan.reserve} in reserve, and not at most {MAX_CODED} together",
+                          "fragments.reserve")
 
 
 def hold_region(plan: Plan, place: Place) -> None:
@@ -242,9 +263,10 @@ def hold_window(plan: Plan, place: Place) -> None:
         raise place.wrong('missing field "periodicity", which class B needs', "window")
     if window.kind == "C" and window.periodicity is not None:
         raise place.wrong("only a window of class B has one", "window.periodicity")
-    if not group.first + plan.fragments < group.end:
-        raise place.wrong(f"{plan.fragments} fragments and a request for the status need the frame counts from {group.first} to "
-                          f"{group.first + plan.fragments}, and {group.end} ends before", "group.end")
+    if not plan.last_count < group.end:
+        needs = f"{plan.reserve} in reserve and requests for the status need" if plan.reserve else "and a request for the status need"
+        raise place.wrong(f"{plan.fragments} fragments{',' * bool(plan.reserve)} {needs} the frame counts from {group.first} to "
+                          f"{plan.last_count}, and {group.end} ends before", "group.end")
 
 
 def hold_starts(plan: Plan, place: Place) -> None:

@@ -2,55 +2,21 @@
 import math
 from collections.abc import Iterator
 from functools import partial
-from typing import Any
 
 from .. import library
-from .carrier import Carrier, Lost, Uplink
+from .carrier import Uplink
 from .contact import SETUP, Contact
-from .folder import Folder
 from .heard import clock_error, missing_in, texts_of
 from .journal import Line
-from .opening import Action, Opening
-from .plan import Plan, gps
-
-# The ms until a network server that did not take a payload is tried again: the first time, and at most.
-FIRST_HOLD, LONGEST_HOLD = 1_000, 60_000
+from .opening import Action
+from .plan import gps
+from .reserve import Rounds
 
 
-class Pace:
-    """From when on a downlink may go out: the air of the group and that of devices are counted apart, as they lie on
-    frequencies of their own."""
-
-    def __init__(self, plan: Plan, sent: dict[bool, tuple[int, float]]) -> None:
-        self.plan = plan
-        self.at: dict[bool, float] = {True: 0, False: 0}
-        for is_group, (t, air) in sorted(sent.items(), key=lambda one: one[1]):
-            self.count(t, air, is_group)
-
-    def count(self, t: int, air: float, is_group: bool) -> None:
-        """A payload went out, and is so many ms on the air."""
-        self.at[is_group] = t + self.plan.distance(air)
-        self.pause(t + self.plan.pace.distance)
-
-    def pause(self, t: int) -> None:
-        """Nothing goes out before this moment."""
-        self.at = {way: max(at, t) for way, at in self.at.items()}
-
-
-class Campaign(Opening):
-    """A campaign over a carrier, kept in a folder; with `is_forced` the window begins however many devices are ready."""
-
-    def __init__(self, plan: Plan, folder: Folder, carrier: Carrier, calls: library.Library | None = None,
-                 is_forced: bool = False) -> None:
-        super().__init__(plan, folder, carrier, calls)
-        self.is_forced, self.hold = is_forced, 0
-        self.pace = Pace(plan, self.history.sent)
+class Campaign(Rounds):
+    """A campaign over a carrier, kept in a folder."""
 
     # ---- What is to do
-
-    def is_over(self, moment: float) -> bool:
-        """Whether no fragment goes out any more: none is left, or the window is past."""
-        return self.sent == self.plan.fragments or self.within(moment) is None
 
     def next_action(self) -> Action | None:
         """When something is to do, and what; None where nothing is any more."""
@@ -60,7 +26,7 @@ class Campaign(Opening):
             return (now, partial(self.move_to, later)) if later else None
         to_all, to_each = (max(now, self.pace.at[is_group]) for is_group in (self.plan.group is not None, False))
         fragments = [*self.to_all(to_all)]
-        requests = [*self.to_each(to_each, self.is_over(to_all) and not self.copies)]
+        requests = [*self.to_each(to_each, self.is_asking(to_all) and not self.copies)]
         if not fragments and not requests:
             return None
         answers, again = ([*self.to_who_asked(to_each, is_again)] for is_again in (False, True))
@@ -80,24 +46,26 @@ class Campaign(Opening):
             yield free, self.send_copy
         elif not self.is_begun:
             yield self.opening()
-        elif moment is not None and not self.is_over(free):
+        elif moment is not None and self.sent < self.target:
             is_settled = all(contact.stage not in SETUP or contact.is_silent for contact in self.contacts)
             if is_awaited and (is_settled or self.plan.group):
                 yield moment, self.send_fragment
-        elif moment is not None and self.plan.group and is_awaited and self.sent == self.plan.fragments == self.group_payloads:
-            yield free, self.send_status
+        elif moment is not None and is_awaited and not self.is_over(free):
+            yield from self.rounds(free)
+        elif moment is not None and is_awaited:
+            yield from self.last_status(free)
 
-    def to_each(self, free: float, is_over: bool) -> Iterator[Action]:
+    def to_each(self, free: float, is_asking: bool) -> Iterator[Action]:
         """The requests, and the ends of waiting: those before the fragments, and those after them. Devices that do not answer
         hold up no others: the least often asked comes first, and of these the one that is due longest."""
         for contact in sorted(self.contacts, key=lambda contact: (contact.tries, contact.due)):
-            is_asked = contact.stage not in SETUP + ("status",) or is_over == (contact.stage == "status")
-            if contact.is_done or contact.is_silent or not is_asked:
+            is_asked = contact.stage not in SETUP + ("status",) or is_asking == (contact.stage == "status")
+            if contact.is_done or contact.is_silent or not is_asked or self.waits_for_round(contact, free):
                 continue
             if contact.is_spent:
                 yield contact.due, partial(self.give_up, contact)
             else:
-                yield max(free, contact.due), partial(self.ask, contact)
+                yield max(free, contact.due, self.asked_one_by_one(contact)), partial(self.ask, contact)
 
     def to_who_asked(self, free: float, is_again: bool) -> Iterator[Action]:
         """The answers that wait, to devices that were answered before or to the others; the first to whom the last one is longest
@@ -119,65 +87,6 @@ class Campaign(Opening):
         return True
 
     # ---- What is done
-
-    def pause_unless_up(self) -> bool:
-        """Whether a carrier that lost a payload takes payloads again; where it does not nothing goes out for a while."""
-        if self.hold and not self.carrier.is_up():
-            self.pause()
-            return False
-        return True
-
-    def pause(self) -> None:
-        self.hold = min(2 * self.hold or FIRST_HOLD, LONGEST_HOLD)
-        self.pace.pause(self.carrier.now() + self.hold)
-
-    def send(self, down: library.Down | None, contact: Contact | None = None, **told: Any) -> None:
-        """Sends what the server gave, once that it gave it is kept and noted."""
-        down = self.given(down)
-        air = self.plan.air(down.length, down.is_group)
-        self.pace.count(self.carrier.now(), air, down.is_group)
-        self.keep()
-        if contact:
-            told["device"] = contact.eui
-        if down.is_group:
-            told["count"] = down.count
-        self.note(**told, air=round(air))
-        try:
-            if down.is_group and self.plan.group:
-                given = self.carrier.to_group(self.plan.group, down.count, down.port, down.data)
-                if given not in (None, down.count):
-                    self.note(given=given)
-            elif contact:
-                device = self.plan.devices[contact.number - 1]
-                self.carrier.to_device(device, down.port, down.data)
-                if not device.is_class_c:
-                    contact.queue()
-            self.hold = 0
-        except Lost as why:
-            self.note(lost=str(why))
-            self.pause()
-
-    def send_fragment(self) -> None:
-        if not self.pause_unless_up():
-            return
-        number, down = self.sent + 1, self.given(self.server.next_fragment())
-        if not down.is_group:
-            self.keep()
-            self.copies = [(contact, number, down) for contact in self.contacts if contact.stage == "status"]
-            self.send_copy()
-        else:
-            self.send(down, sent="fragment", number=number)
-
-    def send_copy(self) -> None:
-        """A fragment by unicast to the next device."""
-        if self.pause_unless_up():
-            contact, number, down = self.copies.pop(0)
-            self.send(down, contact, sent="fragment", number=number)
-
-    def send_status(self) -> None:
-        """Asks all devices at once what they miss."""
-        if self.pause_unless_up():
-            self.send(self.server.status_all(), sent="status")
 
     def ask(self, contact: Contact) -> None:
         if contact.queued:
@@ -223,7 +132,7 @@ class Campaign(Opening):
             told |= self.moved(contact, now, texts)
             missing = missing_in(texts, self.plan.index)
             if missing is not None:
-                told |= {"missing": missing, "over": self.is_over(now)}
+                told |= {"missing": missing, "over": self.is_beyond(missing, now)}
             told |= clock_error(texts, self.plan, uplink.t)
         self.history.take(told)
         return told
@@ -234,7 +143,7 @@ class Campaign(Opening):
         if "bits" in told and contact.stage != told["stage"]:
             told["answer"] = ", ".join(texts)
         is_back = contact.is_silent and told["stage"] in SETUP and told["stage"] == contact.stage
-        if is_back and self.plan.group and not self.is_over(now):
+        if is_back and self.plan.group and not self.is_asking(now):
             told["back"] = True
         return told
 
@@ -243,10 +152,10 @@ class Campaign(Opening):
     def left(self) -> float:
         """About how many ms the fragments take still."""
         now = self.carrier.now()
-        if self.is_over(max(self.pace.at[self.plan.group is not None], now)):
+        if self.is_asking(max(self.pace.at[self.plan.group is not None], now)):
             return 0
         begin = (self.within(now) or now) - now
-        return begin + (self.plan.fragments - self.sent) * self.plan.copies * self.plan.distance(self.plan.fragment_air)
+        return begin + (self.target - self.sent) * self.plan.copies * self.plan.distance(self.plan.fragment_air)
 
     @property
     def is_updated(self) -> bool:

@@ -40,12 +40,17 @@ def counts_of(contacts: list[Contact]) -> str:
     return ", ".join(told)
 
 
+def sent_of(number: int, fragments: int, reserve: int) -> str:
+    """How many fragments went out, and how many of the reserve."""
+    return f"fragments {min(number, fragments)} of {fragments}" + (f", reserve {max(0, number - fragments)} of {reserve}" if reserve else "")
+
+
 def line_of(campaign: Campaign, is_last: bool = False) -> str:
     """How it stands, in a line."""
     left = 0 if is_last else campaign.left()
     away = campaign.carrier.away_since()
-    notice = campaign.notice()
-    return (f"{counts_of(campaign.contacts)}; fragments {campaign.sent} of {campaign.plan.fragments}"
+    notice, plan = campaign.notice(), campaign.plan
+    return (f"{counts_of(campaign.contacts)}; {sent_of(campaign.sent, plan.fragments, plan.reserve)}"
             + (f", {duration(left)} left" if left else "") + (f"; {notice}" if notice else "")
             + (f"; broker away since {moment_of(away)[11:]}" if away is not None else ""))
 
@@ -96,7 +101,8 @@ class Kept:
         """A line for the campaign, and one for each device."""
         history = self.history
         count = "" if history.next_count is None else f", next frame count {history.next_count}"
-        yield f"fragments {history.number} of {history.fragments}{count}, last change {moment_of(history.last)}"
+        rounds = f" in {history.rounds} round{'s' * (history.rounds > 1)}" if history.rounds else ""
+        yield f"{sent_of(history.number, history.fragments, history.reserve)}{rounds}{count}, last change {moment_of(history.last)}"
         for window in history.windows:
             if window.decided:
                 yield decision_of(window, len(self.contacts))
@@ -131,7 +137,7 @@ class Kept:
         return json.dumps({
             "by": history.carrier, "begin": iso_of(history.begin), "last_change": iso_of(history.last),
             "window_opens": iso_of(opens), "window_closes": iso_of(closes), "fragments_sent": history.number,
-            "fragments": history.fragments, "next_frame_count": history.next_count,
+            "fragments": history.fragments, "reserve": history.reserve, "rounds": history.rounds, "next_frame_count": history.next_count,
             "windows": [{**vars(window), "opens": iso_of(window.opens), "closes": iso_of(window.closes)} for window in history.windows],
             "devices": self.rows()}, indent=1) + "\n"
 
@@ -220,9 +226,12 @@ class Picture:
 
     def drawn(self) -> str:
         title = f"A campaign of {len(self.contacts)} devices and {self.history.fragments} fragments, from {moment_of(self.begin)} on"
-        sent = "".join(f"M{self.place(t):.1f} {UPPER + 3}v{ROW - 6}" for t in self.history.fragments_at)
+        planned, reserve = ("".join(f"M{self.place(t):.1f} {UPPER + 3}v{ROW - 6}" for t in moments)
+                            for moments in (self.history.fragments_at, self.history.reserve_at))
         parts = [text(LEFT, 16, title), *legend(), *self.axis(),
-                 text(LEFT - 8, UPPER + ROW - 5, "fragments", "end"), drawn_path(sent or "M0 0", BLUE, 1)]
+                 text(LEFT - 8, UPPER + ROW - 5, "fragments", "end"), drawn_path(planned or "M0 0", BLUE, 1)]
+        if reserve:
+            parts.append(drawn_path(reserve, ORANGE, 1))
         for number, contact in enumerate(self.contacts, 1):
             parts += self.row(number, contact)
         beside = max(40, round(LETTER * max(len(contact.why) for contact in self.contacts)) + 16)

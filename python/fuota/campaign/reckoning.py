@@ -6,7 +6,7 @@ from dataclasses import dataclass
 
 from ..library import STAGES
 from ..limits import HIGHEST_DATA_RATE, HIGHEST_FREQUENCY, LOWEST_FREQUENCY
-from ..theory import duration
+from ..theory import duration, fragments_within
 from .plan import Plan, Window, moment_of
 
 # Bytes of what the server asks at each stage, and of its answer to a device that asks for the time.
@@ -16,6 +16,8 @@ TIME_ANSWER = 6
 ALONE, GROUPED, AFTER = ("version", "fragments"), ("version", "group", "fragments", "window"), ("status", "image", "reboot", "check")
 # The ms from a payload that a device hears to its answer.
 ANSWER = 3_000
+# The ms in which devices answer a request for the status that went to the group: each up to 15 s later (BlockAckDelay 0).
+GROUP_ANSWERS = 15_000 + ANSWER
 # What is lost each way, where the plan does not tell a loss; and the share of the devices that are done in the time that is reckoned.
 LOSS, SURE = 0.1, 0.99
 
@@ -120,12 +122,13 @@ def lines_of(plan: Plan, now: int) -> Iterator[str]:
     hardware = made.lowest if made.lowest == made.highest else f"{made.lowest} to {made.highest}"
     yield f"image: {len(made.data)} bytes, firmware {made.version} for hardware {hardware}"
     yield f"fragments: {plan.pieces} of {plan.size} bytes and {plan.coded} coded, {plan.fragments} in all"
+    yield from reserve_lines(plan)
     requests = 8 if plan.group else 6
     yield f"devices: {len(plan.devices)}, each asked {requests} times or more, by unicast"
     has = ""
     if plan.group and plan.window:
         group, window = plan.group, plan.window
-        yield f"group: {group.address.hex()}, frame counts {group.first} to {group.first + plan.fragments}"
+        yield f"group: {group.address.hex()}, frame counts {group.first} to {plan.last_count}"
         yield (f"window: class {window.kind}, from {moment_of(window.opens)} on for {duration(window.length)}, on "
                f"{window.frequency / 1e6:g} MHz at data rate {window.data_rate}")
         has = f", the window has {duration(window.length - 2 * window.guard)}"
@@ -139,6 +142,17 @@ def lines_of(plan: Plan, now: int) -> Iterator[str]:
     yield f"time: {plan.does_not_fit() or f'the fragments take {duration(plan.need)}{has}'}"
     if not plan.does_not_fit():
         yield end_line(plan)
+
+
+def reserve_lines(plan: Plan) -> Iterator[str]:
+    """What is in reserve, and how much of it the window has room for."""
+    if not plan.reserve:
+        return
+    air, told = plan.fragment_air, ""
+    if plan.window:
+        left = plan.window.length - 2 * plan.window.guard - plan.need - GROUP_ANSWERS
+        told = f"; the window has room for {min(plan.reserve, fragments_within(left, plan.distance(air), air))} of them"
+    yield f"reserve: {plan.reserve} coded fragments more, as far as devices ask for them{told}"
 
 
 OTHERWISE = {"begin": "the window begins all the same", "wait": "it is passed over", "ask": "it waits for run --begin"}

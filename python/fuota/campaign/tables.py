@@ -36,7 +36,8 @@ def moment_of(t: int) -> str:
 
 @dataclass(frozen=True, kw_only=True)
 class Fragments:
-    """The bytes of a piece, and how many coded fragments: a number, or what a loss and a share of devices need by theory."""
+    """The bytes of a piece, and how many coded fragments: a number, or what a loss and a share of devices need by theory. So many
+    more are in `reserve`."""
 
     size: int = member(whole(1, MAX_PIECE))
     coded: int | None = member(whole(0, MAX_CODED), None)
@@ -44,6 +45,7 @@ class Fragments:
     share: float | None = member(number(1, 99.99), None)
     burst: float | None = member(number(1, MAX_PIECES), None)
     rows: int | None = member(whole(0, MAX_ROWS), None)
+    reserve: int = member(whole(0, MAX_CODED), 0)
     index: int = member(whole(0, 3), 0)
 
 
