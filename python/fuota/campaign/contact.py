@@ -38,6 +38,8 @@ class Contact:
         self.missing: int | None = None
         self.short, self.told_at = 0, 0
         self.heard_at: int | None = None
+        # What it answered to delete, after the campaign, each with the number of the answer.
+        self.deleted: dict[str, int] = {}
         # The stage at which it refused, with the bits and the text of its answer; and the ms that its clock was behind, or, where it
         # took the window for past, that it was ahead at least.
         self.refused_at, self.refusal = "", ""
@@ -111,6 +113,8 @@ class Contact:
         t = line["t"]
         if "heard" in line:
             self.heard_at = t
+        if "deleted" in line:
+            self.deleted[line["deleted"]] = line["error"]
         if "silent" in line:
             self.tries, self.standing = line["tries"], Standing.SILENT
         if "bits" in line:

@@ -5,7 +5,7 @@ import io
 import json
 import math
 import pathlib
-from collections.abc import Iterator
+from collections.abc import Callable, Iterator
 from typing import Any, TextIO
 
 from .. import files, svg
@@ -62,15 +62,18 @@ class Progress:
         self.stream, self.is_terminal, self.last, self.shown = stream, stream.isatty(), -math.inf, ""
 
     def show(self, campaign: Campaign, is_last: bool = False) -> None:
-        now = campaign.carrier.now()
+        self.put(campaign.carrier.now(), lambda: line_of(campaign, is_last), is_last)
+
+    def put(self, now: int, made: Callable[[], str], is_last: bool = False) -> None:
+        """Shows the line that is made at `now` ms of Unix time."""
         if self.is_terminal:
-            line = line_of(campaign, is_last)
+            line = made()
             if line != self.shown:
                 self.stream.write(f"\r{line}\x1b[K")
                 self.stream.flush()
             self.shown = line
         elif is_last or now - self.last >= A_MINUTE:
-            self.stream.write(f"{moment_of(now)}: {line_of(campaign, is_last)}\n")
+            self.stream.write(f"{moment_of(now)}: {made()}\n")
             self.stream.flush()
             self.last = now
 
@@ -128,7 +131,7 @@ class Kept:
         """What is known of each device, by names; moments as texts of ISO 8601."""
         return [{"eui": contact.eui, "stage": contact.stage, "word": contact.word, "since": iso_of(contact.since), "tries": contact.tries,
                  "missing": contact.missing, "last_heard": iso_of(contact.heard_at), "clock_behind_ms": contact.behind,
-                 "why": contact.why or None} for contact in self.contacts]
+                 "why": contact.why or None, "deleted": ", ".join(contact.deleted) or None} for contact in self.contacts]
 
     def json(self) -> str:
         """All that is known, as an object of JSON."""
