@@ -11,6 +11,8 @@ from .plan import Retry, moment_of
 SETUP = STAGES[:STAGES.index("status")]
 # After this many reports of missing pieces once sending has ended, give up.
 BELIEVED = 3
+# So many answers for the time go out in turn with the requests, to a device whose clock was wrong at its answer for the window.
+IN_TURN = 4
 
 
 class Standing(enum.Enum):
@@ -48,9 +50,11 @@ class Contact:
         self.was_past = False
         # Payloads that wait for an uplink of it, and whether it was heard since it was due.
         self.queued, self.was_heard = 0, False
-        # The newest answer that waits to be sent, and when the last one was: with the same distance as requests have.
+        # The newest answer that waits to be sent; how many it had, and when the last one was: with the same distance as requests have.
         self.waiting: Down | None = None
-        self.answered_at = 0
+        self.given, self.answered_at = 0, 0
+        # Whether its clock was wrong after it was answered, so that the answer was lost.
+        self.is_astray = False
 
     @property
     def is_silent(self) -> bool:
@@ -60,6 +64,11 @@ class Contact:
     def is_ready(self) -> bool:
         """Whether it is set up for the window: it waits for fragments, or heard them all."""
         return self.stage not in (*SETUP, "refused")
+
+    @property
+    def is_patient(self) -> bool:
+        """Whether an answer to it waits until no request is due: it had one, and nothing says that this was lost, or it had many."""
+        return self.given > 0 and not (self.is_astray and self.given < IN_TURN)
 
     @property
     def is_done(self) -> bool:
@@ -120,7 +129,7 @@ class Contact:
         if "bits" in line:
             self.refused_at, self.bits, self.refusal = line["request"], line["bits"], line.get("answer", self.refusal)
         if "behind" in line:
-            self.behind, self.was_past = line["behind"], line["start"] == 0
+            self.behind, self.was_past, self.is_astray = line["behind"], line["start"] == 0, True
         elif line.get("sent") == "answer":
             # (it was given the time since)
             self.behind = None
@@ -130,7 +139,7 @@ class Contact:
             self.tries += 1
             self.ask_later(t)
         if line.get("sent") == "answer":
-            self.answered_at = t
+            self.given, self.answered_at = self.given + 1, t
         if "missing" in line:
             self.missing, self.told_at = line["missing"], t
             self.short += bool(line["over"] and line["missing"] > 0)

@@ -31,7 +31,7 @@ class Campaign(Rounds):
             return None
         answers, again = ([*self.to_who_asked(to_each, is_again)] for is_again in (False, True))
         # (of what is due at one moment the first goes out: what goes to the group, then by turns, where a device that was answered
-        # before comes after all requests)
+        # before comes after all requests, unless its answer was lost)
         first, others = (fragments, requests) if self.plan.group else ([], fragments + requests)
         if not any(moment <= to_each for moment, _ in requests):
             answers += again
@@ -72,7 +72,7 @@ class Campaign(Rounds):
         ago. A device that asks again and again has no more of them than of requests, and none while something waits for an uplink
         of it."""
         for contact in sorted(self.contacts, key=lambda contact: contact.answered_at):
-            if contact.waiting and not contact.queued and is_again == (contact.answered_at > 0):
+            if contact.waiting and not contact.queued and is_again == contact.is_patient:
                 yield max(free, contact.answered_at + self.plan.retry.distance), partial(self.answer, contact)
 
     def step(self) -> bool:
