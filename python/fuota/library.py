@@ -69,9 +69,9 @@ uint8_t fuota_server_fragment_number(fuota_server *, uint16_t *);
 uint8_t fuota_server_frame_count(fuota_server *, uint32_t *);
 void fuota_mc_app_s_key(const uint8_t [16], uint32_t, uint8_t [16]);
 void fuota_mc_net_s_key(const uint8_t [16], uint32_t, uint8_t [16]);
-uint32_t fuota_frag_session_delete(uint8_t, uint8_t *);
-uint32_t fuota_mc_group_delete(uint8_t, uint8_t *);
-uint32_t fuota_dev_delete_image(uint32_t, uint8_t *);
+uint8_t fuota_frag_session_delete(uint8_t, fuota_down *);
+uint8_t fuota_mc_group_delete(uint8_t, fuota_down *);
+uint8_t fuota_dev_delete_image(uint32_t, fuota_down *);
 fuota_length fuota_server_save(fuota_server *, uint8_t *, fuota_length);
 uint8_t fuota_server_restore(fuota_server *, const fuota_plan *, const fuota_plan_device *, fuota_length, const uint8_t *, fuota_length, const uint8_t *, fuota_length, uint8_t *);
 uint8_t fuota_decode(uint8_t, bool, const uint8_t *, fuota_length, uint8_t *, fuota_length, fuota_decoded *);
@@ -461,23 +461,22 @@ class Library:
         self.call(name, key_of(mc_key), addr, found)
         return bytes(found)
 
-    def frag_session_delete(self, index: int) -> bytes:
-        """FragSessionDeleteReq (TS004-1.0.0) for a FragIndex of 0 to 3, on port 201; `OutOfRange` for another one."""
-        return self.request("frag_session_delete", index, 2)
+    def frag_session_delete(self, index: int) -> Down:
+        """FragSessionDeleteReq (TS004-1.0.0) to a device, for a FragIndex of 0 to 3; `OutOfRange` for another one."""
+        return self.request("frag_session_delete", index)
 
-    def mc_group_delete(self, group: int) -> bytes:
-        """McGroupDeleteReq (TS005-1.0.0) for a McGroupID of 0 to 3, on port 200; `OutOfRange` for another one."""
-        return self.request("mc_group_delete", group, 2)
+    def mc_group_delete(self, id: int) -> Down:
+        """McGroupDeleteReq (TS005-1.0.0) to a device, for a McGroupID of 0 to 3; `OutOfRange` for another one."""
+        return self.request("mc_group_delete", id)
 
-    def dev_delete_image(self, version: int) -> bytes:
-        """DevDeleteImageReq (TS006-1.0.0) for an image of this firmware version, of 32 bits, on port 203."""
-        return self.request("dev_delete_image", version, 5)
+    def dev_delete_image(self, version: int) -> Down:
+        """DevDeleteImageReq (TS006-1.0.0) to a device, for an image of this firmware version, which has 32 bits."""
+        return self.request("dev_delete_image", version)
 
-    def request(self, name: str, number: int, length: int) -> bytes:
-        payload = (U8 * length)()
-        if self.call(name, number, payload) != length:
-            raise OutOfRange()
-        return bytes(payload)
+    def request(self, name: str, number: int) -> Down:
+        down = Down()
+        self.done(name, number, ctypes.byref(down))
+        return down
 
     def decode(self, port: int, up: bool, payload: bytes) -> str:
         """The commands of a payload of port 200 to 203, each on a line; `NoText` where it spells none."""

@@ -13,15 +13,17 @@ from lives import BY_UNICAST, EUIS, PLAN, Child, Played, child_life, laid_out
 FEW = PLAN.replace("tries = 30", "tries = 3")
 
 
-@pytest.mark.parametrize("call, number, payload", [
-    ("frag_session_delete", 0, "0300"), ("frag_session_delete", 3, "0303"), ("frag_session_delete", 4, None),
-    ("mc_group_delete", 0, "0300"), ("mc_group_delete", 3, "0303"), ("mc_group_delete", 4, None),
-    ("dev_delete_image", 2, "0502000000"), ("dev_delete_image", 2 ** 32 - 1, "05ffffffff"), ("dev_delete_image", 2 ** 32, None)])
-def test_requests(library, call, number, payload):
+@pytest.mark.parametrize("call, port, number, payload", [
+    ("frag_session_delete", 201, 0, "0300"), ("frag_session_delete", 201, 3, "0303"), ("frag_session_delete", 201, 4, None),
+    ("mc_group_delete", 200, 0, "0300"), ("mc_group_delete", 200, 3, "0303"), ("mc_group_delete", 200, 4, None),
+    ("mc_group_delete", 200, 256, None), ("dev_delete_image", 203, 2, "0502000000"), ("dev_delete_image", 203, 2 ** 32 - 1, "05ffffffff"),
+    ("dev_delete_image", 203, 2 ** 32, None)])
+def test_requests(library, call, port, number, payload):
     """Bytes of TS004, TS005 and TS006, 1.0.0, and the ranges of their fields."""
     make = getattr(fuota.Library(library), call)
     if payload:
-        assert make(number).hex() == payload
+        down = make(number)
+        assert (down.port, down.data.hex(), down.is_group) == (port, payload, False)
     else:
         with pytest.raises(fuota.OutOfRange):
             make(number)

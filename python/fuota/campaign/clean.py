@@ -5,7 +5,7 @@ from dataclasses import dataclass
 from functools import partial
 
 from ..errors import Wrong
-from ..library import Library
+from ..library import Down, Library
 from .carrier import Carrier, Lost, Uplink
 from .contact import Contact, Standing
 from .folder import Folder
@@ -24,11 +24,10 @@ ANSWERS = {
 
 @dataclass(frozen=True)
 class Thing:
-    """What is to be deleted: the port and the payload of the request, and how its answer reads (docs/FORMATS.md)."""
+    """What is to be deleted: the request, and how its answer reads (docs/FORMATS.md)."""
 
     name: str
-    port: int
-    payload: bytes
+    request: Down
     answer: re.Pattern[str]
 
     def error_in(self, texts: list[str]) -> int | None:
@@ -39,12 +38,12 @@ class Thing:
 
 def things_of(plan: Plan, calls: Library, is_image: bool) -> list[Thing]:
     """What a campaign of a plan leaves on a device: the session, the group, and where it is asked for an image that was not run."""
-    things = [Thing("session", 201, calls.frag_session_delete(plan.index), re.compile(rf"FragSessionDeleteAns index={plan.index} missing=(\d)"))]
+    things = [Thing("session", calls.frag_session_delete(plan.index), re.compile(rf"FragSessionDeleteAns index={plan.index} missing=(\d)"))]
     if plan.group:
         id = plan.group.id
-        things.append(Thing("group", 200, calls.mc_group_delete(id), re.compile(rf"McGroupDeleteAns id={id} undefined=(\d)")))
+        things.append(Thing("group", calls.mc_group_delete(id), re.compile(rf"McGroupDeleteAns id={id} undefined=(\d)")))
     if is_image:
-        things.append(Thing("image", 203, calls.dev_delete_image(plan.image.version), re.compile(r"DevDeleteImageAns bits=(\d+)")))
+        things.append(Thing("image", calls.dev_delete_image(plan.image.version), re.compile(r"DevDeleteImageAns bits=(\d+)")))
     return things
 
 
@@ -142,12 +141,12 @@ class Cleaning:
         if contact.queued:
             contact.wait_for_queue(now)
             return
-        air = self.plan.air(len(thing.payload), False)
+        air = self.plan.air(thing.request.length, False)
         self.pace.count(now, air, False)
         self.note(sent="delete", device=contact.eui, thing=thing.name, air=round(air))
         device = self.plan.devices[contact.number - 1]
         try:
-            self.carrier.to_device(device, thing.port, thing.payload)
+            self.carrier.to_device(device, thing.request.port, thing.request.data)
         except Lost as why:
             self.folder.journal.write({"t": self.carrier.now(), "lost": str(why)})
             return
