@@ -445,7 +445,7 @@ class Stub:
     def __init__(self, now, left=0, away=None):
         self.carrier, self.left, self.sent = self, lambda: left, 3
         self.now, self.contacts = lambda: now, [types.SimpleNamespace(word=word, cause=None) for word in ("updated", "status", "updated")]
-        self.away_since, self.notice = lambda: away, lambda: ""
+        self.away_since, self.notice = lambda: away, lambda is_last: ""
         self.plan = types.SimpleNamespace(fragments=9, reserve=0)
 
 

@@ -38,7 +38,8 @@ class Thing:
 
 def things_of(plan: Plan, calls: Library, is_image: bool) -> list[Thing]:
     """What a campaign of a plan leaves on a device: the session, the group, and where it is asked for an image that was not run."""
-    things = [Thing("session", calls.frag_session_delete(plan.index), re.compile(rf"FragSessionDeleteAns index={plan.index} missing=(\d)"))]
+    index = plan.index
+    things = [Thing("session", calls.frag_session_delete(index), re.compile(rf"FragSessionDeleteAns index={index} missing=(\d)"))]
     if plan.group:
         id = plan.group.id
         things.append(Thing("group", calls.mc_group_delete(id), re.compile(rf"McGroupDeleteAns id={id} undefined=(\d)")))
@@ -78,8 +79,8 @@ class Cleaned(Contact):
     @property
     def told(self) -> str:
         """What it answered, and what it did not, in words."""
-        return "; ".join(f"{thing.name}: {told_of(thing.name, self.answers[thing.name]) if thing.name in self.answers else 'no answer'}"
-                         for thing in self.things)
+        answers = {thing.name: self.answers.get(thing.name) for thing in self.things}
+        return "; ".join(f"{name}: {'no answer' if error is None else told_of(name, error)}" for name, error in answers.items())
 
 
 class Cleaning:

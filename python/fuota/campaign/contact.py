@@ -50,7 +50,7 @@ class Contact:
         self.was_past = False
         # Payloads that wait for an uplink of it, and whether it was heard since it was due.
         self.queued, self.was_heard = 0, False
-        # The newest answer that waits to be sent; how many it had, and when the last one was: with the same distance as requests have.
+        # The newest answer that waits to be sent; how many it had, and when the last one was: with the distance of requests.
         self.waiting: Down | None = None
         self.given, self.answered_at = 0, 0
         # Whether its clock was wrong after it was answered, so that the answer was lost.
@@ -67,7 +67,7 @@ class Contact:
 
     @property
     def is_patient(self) -> bool:
-        """Whether an answer to it waits until no request is due: it had one, and nothing says that this was lost, or it had many."""
+        """Whether an answer to it waits until no request is due: it had one that nothing says was lost, or it had many."""
         return self.given > 0 and not (self.is_astray and self.given < IN_TURN)
 
     @property
@@ -141,14 +141,17 @@ class Contact:
         if line.get("sent") == "answer":
             self.given, self.answered_at = self.given + 1, t
         if "missing" in line:
-            self.missing, self.told_at = line["missing"], t
-            self.short += bool(line["over"] and line["missing"] > 0)
-            # (what it waits for now is a fragment)
-            self.tries = self.tries if line["over"] else 0
+            self.take_missing(line)
         if line.get("back"):
             self.ask_anew(t)
         if self.word != self.words[-1][0]:
             self.words.append((self.word, t))
+
+    def take_missing(self, line: dict[str, Any]) -> None:
+        """It told what it misses. What it waits for then is a fragment, where one may come."""
+        self.missing, self.told_at = line["missing"], line["t"]
+        self.short += bool(line["over"] and line["missing"] > 0)
+        self.tries = self.tries if line["over"] else 0
 
     def move(self, t: int, stage: str) -> None:
         """Its stage is this. A device that reboots is not asked at once."""

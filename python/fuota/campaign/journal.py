@@ -91,7 +91,8 @@ class History:
         # The windows so far, and the group's next frame count; none where the journal tells none.
         self.windows: list[KeptWindow] = []
         self.next_count: int | None = None
-        # When planned fragments went out, and those of the reserve; when the last one did; and by unicast and to the group the last payload's moment and its ms on the air.
+        # When planned fragments went out, and those of the reserve; when the last one did; and by unicast and to the group the last
+        # payload's moment and its ms on the air.
         self.fragments_at: list[int] = []
         self.reserve_at: list[int] = []
         self.fragment_at = 0
@@ -127,9 +128,7 @@ class History:
         if line.get("sent") == "status":
             self.status_at, self.asked = line["t"], self.asked + 1
         if line.get("sent") == "fragment":
-            (self.fragments_at if line["number"] <= self.fragments else self.reserve_at).append(line["t"])
-            self.fragment_at, self.asked = line["t"], 0
-            self.take_copy(line)
+            self.take_fragment(line)
         if "air" in line:
             self.sent["count" in line] = line["t"], line["air"]
         if "sent" in line and "device" in line:
@@ -155,8 +154,10 @@ class History:
             for contact in self.contacts.values():
                 contact.start_over(line["t"])
 
-    def take_copy(self, line: Line) -> None:
+    def take_fragment(self, line: Line) -> None:
         """A fragment went out, by unicast where it names a device."""
+        (self.fragments_at if line["number"] <= self.fragments else self.reserve_at).append(line["t"])
+        self.fragment_at, self.asked = line["t"], 0
         if line["number"] != self.copied:
             self.copied, self.copied_to = line["number"], set()
         if "device" in line:

@@ -82,12 +82,12 @@ class Opening(Sending):
         self.keep()
         self.complete_window()
 
-    def notice(self) -> str:
-        """What is said of the window before it begins; empty where nothing is."""
+    def notice(self, is_last: bool) -> str:
+        """What is said of the window before it begins, or at the end of a campaign; empty where nothing is."""
         window, now, count = self.plan.window, self.carrier.now(), len(self.contacts)
         if self.decided == "wait":
             return "no further window can be reached"
-        if not window or now >= window.opens and self.decided != "ask":
+        if is_last or not window or now >= window.opens and self.decided != "ask":
             return ""
         begin = "window open" if now >= window.opens else f"window in {duration(window.opens - now)}"
         return f"{begin}, {count - self.ready} of {count} not ready" + ", waits for run --begin" * (self.decided == "ask")

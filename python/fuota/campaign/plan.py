@@ -174,13 +174,8 @@ def read_plan(path: str | pathlib.Path, has_group: bool = True) -> Plan:
     loss = None if told.fragments.loss is None else told.fragments.loss / 100
     plan = Plan(place.file, made, REGIONS[told.region], told.fragments.size, coded, loss, told.fragments.index, told.group, told.window,
                 told.pace, told.retry, server, told.devices, told.fragments.reserve)
-    hold_reserve(plan, place)
-    hold_region(plan, place)
-    hold_devices(plan, place)
-    hold_retry(plan, place)
-    hold_window(plan, place)
-    hold_starts(plan, place)
-    hold_ready(plan, place)
+    for hold in (hold_reserve, hold_region, hold_devices, hold_retry, hold_window, hold_starts, hold_ready):
+        hold(plan, place)
     return plan
 
 

@@ -49,7 +49,7 @@ def line_of(campaign: Campaign, is_last: bool = False) -> str:
     """How it stands, in a line."""
     left = 0 if is_last else campaign.left()
     away = campaign.carrier.away_since()
-    notice, plan = campaign.notice(), campaign.plan
+    notice, plan = campaign.notice(is_last), campaign.plan
     return (f"{counts_of(campaign.contacts)}; {sent_of(campaign.sent, plan.fragments, plan.reserve)}"
             + (f", {duration(left)} left" if left else "") + (f"; {notice}" if notice else "")
             + (f"; broker away since {moment_of(away)[11:]}" if away is not None else ""))
