@@ -61,14 +61,17 @@ def test_a_further_window_that_comes_too_soon(call, tmp_path):
         r"passed over, and the set-up takes \d+ min( \d+ s)? or more\n", done.message), done.message
 
 
-@pytest.mark.parametrize("text, line", [
-    (WAIT, "ready: 3 of 3 devices, else it is passed over, again 2031-05-06 23:00:00 UTC, again 2031-05-07 01:00:00 UTC"),
-    (ready(50, 'otherwise = "ask"'), "ready: 2 of 3 devices, else it waits for run --begin"),
-    (ready(33, 'otherwise = "begin"'), "ready: 1 of 3 devices, else the window begins all the same"), (PLAN, None)])
-def test_check(call, tmp_path, text, line):
+@pytest.mark.parametrize("text, lines", [
+    (WAIT, ["ready: 3 of 3 devices, else it is passed over", "again: 2031-05-06 23:00:00 UTC", "again: 2031-05-07 01:00:00 UTC"]),
+    (ready(90, 'otherwise = "ask"', "again = [2031-05-06T22:17:04Z]").replace("duty_cycle = 10", "duty_cycle = 2"),
+     ["ready: 3 of 3 devices, else it waits for run --begin", "again: 2031-05-06 22:17:04 UTC, before which some devices may not be ready"]),
+    (ready(50, 'otherwise = "ask"'), ["ready: 2 of 3 devices, else it waits for run --begin"]),
+    (ready(33, 'otherwise = "begin"'), ["ready: 1 of 3 devices, else the window begins all the same"]), (PLAN, [])],
+    ids=["wait", "ask, soon again", "ask", "begin", "nothing"])
+def test_check(call, tmp_path, text, lines):
     laid_out(tmp_path, text)
     done = call("fuota-campaign", "check", "plan.toml")
-    assert done.status == 0 and [told for told in done.said.splitlines() if told.startswith("ready")] == ([line] if line else [])
+    assert done.status == 0 and [told for told in done.said.splitlines() if told.startswith(("ready", "again"))] == lines
 
 
 def test_needed(tmp_path):

@@ -98,7 +98,7 @@ def parser() -> argparse.ArgumentParser:
     with_pipe(run_words)
     clean_words = of_folder(of_plan(way("clean", clean, "asks each device to delete what an ended campaign left on it")))
     clean_words.add_argument("--image", action="store_true", help="also an image of the plan's version that was received and never ran")
-    clean_words.add_argument("--anyway", action="store_true", help="also where the campaign has not ended")
+    clean_words.add_argument("--anyway", action="store_true", help="also where the campaign has not ended; it can't go on then")
     with_pipe(clean_words)
     status_words = way("status", status, "says how the campaign of a folder stands")
     status_words.add_argument("folder", metavar="FOLDER", type=pathlib.Path)

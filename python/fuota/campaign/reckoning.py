@@ -160,9 +160,13 @@ OTHERWISE = {"begin": "the window begins all the same", "wait": "it is passed ov
 
 def ready_lines(plan: Plan, window: Window) -> Iterator[str]:
     """How many devices have to be ready as the window opens, and what is done otherwise."""
-    if window.otherwise:
-        again = "".join(f", again {moment_of(later.opens)}" for later in plan.windows[1:])
-        yield f"ready: {plan.needed} of {len(plan.devices)} devices, else {OTHERWISE[window.otherwise]}{again}"
+    if not window.otherwise:
+        return
+    yield f"ready: {plan.needed} of {len(plan.devices)} devices, else {OTHERWISE[window.otherwise]}"
+    likely = set_up_of(plan).likely
+    for before, later in itertools.pairwise(plan.windows):
+        is_short = later.opens - before.opens - before.guard < likely
+        yield f"again: {moment_of(later.opens)}{', before which some devices may not be ready' if is_short else ''}"
 
 
 def region_lines(plan: Plan, window: Window) -> Iterator[str]:
