@@ -63,7 +63,8 @@ class Opening(Sending):
         return max(self.carrier.now(), moment), self.decide
 
     def decide(self) -> None:
-        """Decides whether the window begins. One whose rest is too short is passed over, where there is another or nobody forced it."""
+        """Decides whether the window begins. One whose rest is too short is passed over where there is a further one, and where
+        somebody is asked; but not if somebody forced it."""
         choice = "begin" if self.is_enough or not self.plan.window else self.plan.window.otherwise
         if self.carrier.now() > self.latest and not self.is_forced and (choice == "ask" or self.plan.following):
             choice = "wait"
@@ -86,7 +87,7 @@ class Opening(Sending):
         """What is said of the window before it begins, or at the end of a campaign; empty where nothing is."""
         window, now, count = self.plan.window, self.carrier.now(), len(self.contacts)
         if self.decided == "wait":
-            return "no further window can be reached"
+            return "" if self.later() else "no further window can be reached"
         if is_last or not window or now >= window.opens and self.decided != "ask":
             return ""
         begin = "window open" if now >= window.opens else f"window in {duration(window.opens - now)}"
