@@ -126,6 +126,14 @@ def test_losses(ended, library):
         assert all(t >= one["t"] + 60_000 for t in later)
 
 
+def test_answers_that_come_twice(ended, library):
+    """The first one counts, and is noted once."""
+    played = ended(loss=0)
+    advance = played.fleet.advance
+    played.fleet.advance = lambda t: [uplink for uplink in advance(t) for _ in range(2)]
+    assert cleaned(played, library) == 0 and len(answers_of(played)) == 6
+
+
 def test_silent_devices(ended, library):
     """A device that does not answer is given up after the plan's tries, told, and asked anew by the next one."""
     played = ended(FEW, loss=0)
