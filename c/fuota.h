@@ -291,7 +291,10 @@ fuota_result fuota_device_restore(fuota_device *handle, uint8_t size, const fuot
 
 /* Its flash is bytes of the library's own, at least four spans; C hands them in, and copies them out between two calls
  * to keep them with what fuota_device_save gives, all or none of both. A device restored of them goes on in each
- * session. A new flash is zeros; the least span is 24,640, and in one of FUOTA_LONGEST_SPAN each session fits. */
+ * session. A new flash is zeros. A session of n pieces of s bytes (NbFrag and FragSize of its setup) takes
+ * 24,640 + (2 n + 1)(10 + s) bytes of its span (docs/FORMATS.md, "Session in flash"): the least span is that of the
+ * longest file that the device is to take, and a setup that takes more is refused with bit 1 (no memory). In one of
+ * FUOTA_LONGEST_SPAN each session fits; one below 24,640 is FUOTA_RANGE. */
 #define FUOTA_LONGEST_SPAN 631573
 
 /* As fuota_device_new, of a device whose sessions are held in a flash of these bytes, each in `span` of them. They are

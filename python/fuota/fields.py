@@ -171,11 +171,16 @@ def word(value: Any) -> Any:
     return value
 
 
-def words(value: Any) -> tuple[str, ...]:
-    """Reads a list of such words."""
-    if not isinstance(value, list) or not value:
-        raise ValueError(f"not a list of names: {value!r:.40}")
-    return tuple(word(one) for one in value)
+def several(reader: Reader, what: str) -> Reader:
+    """Reads a list of one value or more."""
+    def read(value: Any) -> tuple[Any, ...]:
+        if not isinstance(value, list) or not value:
+            raise ValueError(f"not a list of {what}: {value!r:.40}")
+        return tuple(reader(one) for one in value)
+    return read
+
+
+words = several(word, "names")
 
 
 def choice(*names: str) -> Reader:
@@ -211,3 +216,6 @@ def moment(value: Any) -> int:
     except OverflowError:
         raise ValueError(f"not within the years 1 to 9999: {value!s:.40}") from None
     return round(value.timestamp()) * 1000
+
+
+moments = several(moment, "moments")

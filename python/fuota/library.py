@@ -463,19 +463,19 @@ class Library:
         return bytes(found)
 
     def frag_session_delete(self, index: int) -> Down:
-        """FragSessionDeleteReq, by which a device deletes the session of an index, 0 to 3."""
+        """FragSessionDeleteReq (TS004-1.0.0) to a device, for a FragIndex of 0 to 3; `OutOfRange` for another one."""
         return self.request("frag_session_delete", index)
 
     def mc_group_delete(self, id: int) -> Down:
-        """McGroupDeleteReq, by which a device deletes the group of an id, 0 to 3."""
+        """McGroupDeleteReq (TS005-1.0.0) to a device, for a McGroupID of 0 to 3; `OutOfRange` for another one."""
         return self.request("mc_group_delete", id)
 
     def dev_delete_image(self, version: int) -> Down:
-        """DevDeleteImageReq, by which a device deletes the image of a firmware version that it has received and does not run."""
+        """DevDeleteImageReq (TS006-1.0.0) to a device, for an image of this firmware version, which has 32 bits."""
         return self.request("dev_delete_image", version)
 
     def force_device_resync(self, count: int) -> Down:
-        """ForceDeviceResyncReq, after which a device asks for the time `count` times, 0 to 7."""
+        """ForceDeviceResyncReq (TS003-1.0.0) to a device, which then asks for the time `count` times, 0 to 7; `OutOfRange` above."""
         return self.request("force_device_resync", count)
 
     def request(self, name: str, number: int) -> Down:

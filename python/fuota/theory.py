@@ -1,4 +1,5 @@
 """What theory says of losses, coded fragments and air time; docs/PLANNING.md says what it assumes."""
+import functools
 import itertools
 import math
 from dataclasses import dataclass
@@ -39,6 +40,18 @@ FULL_RANKS = full_ranks(MAX_CODED)
 def rank_share(columns: int, rows: int) -> float:
     """The probability that a random matrix of GF(2) with so many rows has as many independent ones as it has columns."""
     return FULL_RANKS[rows] / FULL_RANKS[rows - columns] if rows >= columns else 0.0
+
+
+@functools.lru_cache
+def enough_coded(missing: int, loss: float, share: float) -> int:
+    """How many coded fragments bring so many missing pieces to this share of devices, which lose each of them independently with a
+    probability below 1; MAX_CODED where no fewer do."""
+    for count in range(missing, MAX_CODED):
+        chances = (math.comb(count, heard) * (1 - loss) ** heard * loss ** (count - heard) * rank_share(missing, heard)
+                   for heard in range(missing, count + 1))
+        if math.fsum(chances) >= share:
+            return count
+    return MAX_CODED
 
 
 def one_more(chain: Chain, heard: list[float], lost: list[float]) -> tuple[list[float], list[float]]:

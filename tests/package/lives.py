@@ -12,6 +12,7 @@ import sys
 import fuota
 from fuota import image
 from fuota.campaign import command, journal, pipe, progress
+from fuota.campaign.folder import restored
 from fuota.campaign.plan import read_plan
 from fuota.campaign.rehearsal import Fleet
 from fuota.errors import Wrong
@@ -110,8 +111,7 @@ class Played:
     def kept(self):
         """How many fragments were taken from the server that is kept, and the stage of each device."""
         plan, saved = read_plan(self.folder / "plan.toml"), (self.folder / "state" / "state").read_bytes()
-        words = plan.for_library(), plan.devices_for_library, plan.image.data, saved, self.library
-        with fuota.Server.restore(*words) as server:
+        with restored(plan, saved, self.library)[0] as server:
             return server.fragment_number() - 1, [server.ledger(dev).word for dev in range(1, len(plan.devices) + 1)]
 
     def take(self, told, process):

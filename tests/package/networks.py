@@ -12,6 +12,8 @@ From memory, and not tried against a server that runs:
   `details`; a key that is none gives 401 with code 16, an id that is none 404 with code 5;
 - CLASS_C is the first word of MulticastGroupType; the order of words in Region; `classBPingSlotPeriodicity` is the name of that field;
 - GET /api/devices takes `multicastGroupId`, `limit` and `offset`, and answers `totalCount` and `result`;
+- GET /api/device-profiles/{id} answers `deviceProfile` with `region`, of which EU868 is the first word; GET /api/devices/{eui} has
+  `lastSeenAt` beside `device`, null where the device was never heard;
 - a group's queue takes ports 1 to 223 and counts each payload that it takes, whatever `fCnt` says;
 - ChirpStack publishes events with QoS 0 where its configuration says nothing;
 - a device's queue has room for as many payloads as QUEUE says; a true one has room for more;
@@ -38,7 +40,7 @@ from lives import EUIS, PLAN, TOOL, VERSION, laid_out
 MOSQUITTO = shutil.which("mosquitto") or shutil.which("mosquitto", path="/usr/sbin:/usr/local/sbin")
 # The session keys of the group of PLAN (TS005-1.0.0), as openssl enc -aes-128-ecb gives them of its McKey
 NET_KEY, APP_KEY = "12c70ea55446bf379c31d89f8af7d8ad", "433e2ad275693ee89936dea29718abc8"
-APPLICATION, GROUP, QUEUE = "5b3c6d0e-fleet", "6f1c1a52-group", 16
+APPLICATION, GROUP, PROFILE, QUEUE = "5b3c6d0e-fleet", "6f1c1a52-group", "0d9a7c44-profile", 16
 
 
 def left_out(value):
@@ -63,6 +65,7 @@ class Api:
         self.group = {"id": GROUP, "name": "meters", "applicationId": APPLICATION, "region": 0, "mcAddr": "01020304", "groupType": 0,
                       "mcNwkSKey": NET_KEY, "mcAppSKey": APP_KEY, "dr": 3, "frequency": 869_525_000}
         self.devices = {eui: APPLICATION for eui in EUIS}
+        self.profiles, self.heard = {PROFILE: {"id": PROFILE, "name": "meter"}}, {eui: "2031-05-06T20:00:00.123456Z" for eui in EUIS}
         self.members = list(EUIS)
 
     @property
@@ -87,7 +90,10 @@ class Api:
             return {"totalCount": len(self.members), "result": listed}
         eui = place.path.removeprefix("/api/devices/")
         if way == "GET" and eui in self.devices:
-            return {"device": {"devEui": eui, "name": f"meter-{eui[-1]}", "applicationId": self.devices[eui], "isDisabled": False}}
+            return {"device": {"devEui": eui, "name": f"meter-{eui[-1]}", "applicationId": self.devices[eui], "isDisabled": False,
+                               "deviceProfileId": PROFILE}, "lastSeenAt": self.heard.get(eui)}
+        if way == "GET" and place.path.removeprefix("/api/device-profiles/") in self.profiles:
+            return {"deviceProfile": self.profiles[place.path.removeprefix("/api/device-profiles/")]}
         raise Refused(404, "object does not exist")
 
     def enqueue(self, body):

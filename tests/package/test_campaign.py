@@ -445,8 +445,8 @@ class Stub:
     def __init__(self, now, left=0, away=None):
         self.carrier, self.left, self.sent = self, lambda: left, 3
         self.now, self.contacts = lambda: now, [types.SimpleNamespace(word=word, cause=None) for word in ("updated", "status", "updated")]
-        self.away_since = lambda: away
-        self.plan = types.SimpleNamespace(fragments=9)
+        self.away_since, self.notice = lambda: away, lambda is_last: ""
+        self.plan = types.SimpleNamespace(fragments=9, reserve=0)
 
 
 def shown_on(stream):

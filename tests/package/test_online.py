@@ -13,7 +13,7 @@ from fuota.campaign import mqtt
 from fuota.campaign.carrier import Refusing
 from fuota.campaign.plan import read_plan
 from lives import EUIS, PLAN, Process, laid_out
-from networks import ACCESS, APPLICATION, GROUP, MOSQUITTO, PASSWORD, USER, Broker, chirpstack_table, free_port, private, rest_stub, things_table
+from networks import ACCESS, APPLICATION, GROUP, MOSQUITTO, PASSWORD, PROFILE, USER, Broker, chirpstack_table, free_port, private, rest_stub, things_table
 
 pytest.importorskip("paho.mqtt.client")
 over_mqtt = pytest.mark.skipif(not (MOSQUITTO and shutil.which("mosquitto_pub")), reason="mosquitto or its clients are not installed")
@@ -52,6 +52,9 @@ DIFFERENCES = {
     "counter 0": (lambda api: setattr(api, "first", 0), ["the multicast group's frame counter: 0, in the plan 100"]),
     "a device": (of_device(EUIS[1], None), [f"device {EUIS[1]}: unknown to ChirpStack"]),
     "another's device": (of_device(EUIS[2], "x"), [f"device {EUIS[2]}: of the application x, in the plan of {APPLICATION}"]),
+    "region": (lambda api: api.profiles[PROFILE].update(region="US915"),
+               [f"the device profile {PROFILE}'s region: US915, in the plan EU868"]),
+    "no profile that is seen": (lambda api: api.profiles.clear(), []),
     "no member": (lambda api: api.members.remove(EUIS[0]), [f"device {EUIS[0]}: not in the multicast group"]),
     "many members": (lambda api: setattr(api, "members", [f"{number:016x}" for number in range(250)] + api.members), []),
 }
@@ -81,6 +84,17 @@ def test_differences(placed, library, name):
         carrier.hold(plan, True, calls)
     assert str(why.value) == "the network server is set up otherwise than the plan: " + "; ".join(wanted)
     assert plan.group.key.hex() not in str(why.value)
+
+
+def test_never_heard(placed):
+    """Which devices it never heard, where its API tells that; where it does not nothing is said of them."""
+    api, plan = placed
+    carrier = mqtt.Mqtt(plan.server, "")
+    assert carrier.never_heard(plan) == []
+    del api.heard[EUIS[1]]
+    assert carrier.never_heard(plan) == [EUIS[1]]
+    api.status = 503
+    assert carrier.never_heard(plan) == []
 
 
 @pytest.mark.parametrize("first, is_well", [(99, False), (100, True), (150, True), (200, True), (201, False)])

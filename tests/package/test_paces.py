@@ -136,6 +136,22 @@ def test_the_newest_answer(begun):
     assert t > BEGIN + 10_000 and payload == bytes([1]) + (-AHEAD).to_bytes(4, "little", signed=True) + bytes([5])
 
 
+def test_an_answer_that_was_lost(begun, monkeypatch):
+    """A device whose answer for the window tells a wrong clock after it was answered is answered in turn with the requests, up to four
+    times; one of which nothing tells that waits until no request is due."""
+    desk, campaign = begun(SLOW, 40, "C")
+    for eui in (eui_of(1), eui_of(2)):
+        contact = campaign.history.contacts[eui]
+        contact.take({"t": BEGIN, "sent": "answer", "device": eui})
+    campaign.history.contacts[eui_of(1)].take({"t": BEGIN, "device": eui_of(1), "heard": "", "behind": -5_000, "start": 0})
+    for eui in (eui_of(1), eui_of(2)):
+        asks(desk, eui, 30_000, HOUR)
+    played(desk, campaign, HOUR)
+    first, second = ([t for t, _, _ in desk.given(eui_of(number))] for number in (1, 2))
+    assert first[0] < BEGIN + 4 * MINUTE and len([t for t in first if t < BEGIN + 12 * MINUTE]) == 3
+    assert not any(t < BEGIN + 12 * MINUTE for t in second)
+
+
 def test_answers_keep_the_pace(begun):
     """First answers and requests by turns, none earlier than the air time of the one before allows."""
     desk, campaign = begun(SLOW, 6, "C")

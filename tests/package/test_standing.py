@@ -89,9 +89,11 @@ def test_exports(call, tmp_path):
     told = json.loads(call("fuota-campaign", "status", "state", "--json").said)
     devices = told.pop("devices")
     assert told == {"by": "pipe", "begin": "2031-05-06T21:00:00Z", "last_change": "2031-05-06T21:09:00Z", "fragments_sent": 1,
-                    "fragments": 26, "next_frame_count": 108, "window_opens": "2031-05-06T22:00:00Z", "window_closes": "2031-05-06T22:17:04Z"}
+                    "fragments": 26, "reserve": 0, "rounds": 0, "next_frame_count": 108, "window_opens": "2031-05-06T22:00:00Z", "window_closes": "2031-05-06T22:17:04Z",
+                    "windows": [{"opens": "2031-05-06T22:00:00Z", "closes": "2031-05-06T22:17:04Z", "decided": None, "ready": None,
+                                 "needed": None}]}
     assert devices[0] == {"eui": EUIS[0], "stage": "refused", "word": "refused", "since": "2031-05-06T21:01:00Z", "tries": 0,
-                          "missing": None, "last_heard": "2031-05-06T21:01:00Z", "clock_behind_ms": None, "why": WHY[0]}
+                          "missing": None, "last_heard": "2031-05-06T21:01:00Z", "clock_behind_ms": None, "why": WHY[0], "deleted": None}
     assert [(device["word"], device["tries"], device["why"]) for device in devices[1:]] == [("silent", 2, WHY[1]), ("incomplete", 2, WHY[2])]
     rows = list(csv.DictReader(io.StringIO(call("fuota-campaign", "status", "state", "--csv").said)))
     assert rows == [{name: "" if value is None else str(value) for name, value in device.items()} for device in devices]

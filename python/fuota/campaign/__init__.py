@@ -1,2 +1,3 @@
-"""Campaigns: a plan (plan), what is kept (folder, journal), what goes out when (play), and the ways to the devices
-(carrier, pipe, mqtt, rehearsal). The command is fuota-campaign (command)."""
+"""Campaigns: a plan (plan, tables), what is kept (folder, journal), what goes out when (play, over begun, sending, opening and
+reserve), what devices delete after it (clean), and the ways to the devices (carrier, pipe, mqtt, rehearsal). The command is
+fuota-campaign (command)."""

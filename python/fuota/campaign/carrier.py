@@ -31,6 +31,10 @@ class Carrier(abc.ABC):
     def hold(self, plan: Plan, is_new: bool, calls: Library | None) -> None:
         """Refuses a network server that is set up otherwise than a plan, whose campaign is new or was begun before."""
 
+    def never_heard(self, plan: Plan) -> list[str]:
+        """The devices of a plan that the network server never heard, where it tells that."""
+        return []
+
     def away_since(self) -> int | None:
         """Since when, in ms of Unix time, nothing can be heard; None where something can."""
         return None

@@ -16,6 +16,7 @@ from ..errors import Failed, Wrong
 from ..lns import Lost, Refusing, Server
 from ..theory import duration
 from .carrier import LOG, Carrier
+from .clean import Cleaning
 from .folder import Folder, is_used
 from .mqtt import Mqtt, access_of
 from .online import tried
@@ -77,6 +78,10 @@ def parser() -> argparse.ArgumentParser:
                           help="where the campaign is kept; made where it is not there")
         return with_library(made)
 
+    def with_pipe(made: argparse.ArgumentParser) -> None:
+        made.add_argument("--pipe", action="store_true", help="lines of JSON on standard input and output in the place of a network server")
+        made.add_argument("--simulated", action="store_true", help="with --pipe: the time is that of the lines that are read")
+
     way("sample", sample, "prints a plan with each field explained")
     settings_words = with_library(of_plan(way("settings", settings, "prints what a network server has to know of the plan's group")))
     settings_words.add_argument("--apply", action="store_true", help="makes the group over ChirpStack's API, and prints its id")
@@ -89,9 +94,12 @@ def parser() -> argparse.ArgumentParser:
                                 help="so much of what is sent is lost, each way; 0 if left out")
     rehearse_words.add_argument("--seed", type=words.whole(0, 2**64 - 1), default=0, help="what losses are drawn from")
     run_words = of_folder(of_plan(way("run", run, "runs the campaign over the network server of the plan")))
-    run_words.add_argument("--pipe", action="store_true",
-                           help="lines of JSON on standard input and output in the place of a network server")
-    run_words.add_argument("--simulated", action="store_true", help="with --pipe: the time is that of the lines that are read")
+    run_words.add_argument("--begin", action="store_true", help="the window begins, however many devices are ready")
+    with_pipe(run_words)
+    clean_words = of_folder(of_plan(way("clean", clean, "asks each device to delete what an ended campaign left on it")))
+    clean_words.add_argument("--image", action="store_true", help="also an image of the plan's version that was received and never ran")
+    clean_words.add_argument("--anyway", action="store_true", help="also where the campaign has not ended; it can't go on then")
+    with_pipe(clean_words)
     status_words = way("status", status, "says how the campaign of a folder stands")
     status_words.add_argument("folder", metavar="FOLDER", type=pathlib.Path)
     status_words.add_argument("--picture", metavar="FILE", type=pathlib.Path, help="draws it, as SVG")
@@ -172,16 +180,41 @@ def rehearse(asked: argparse.Namespace) -> int:
 
 
 def run(asked: argparse.Namespace) -> int:
-    if asked.simulated and not asked.pipe:
-        raise Wrong("--simulated goes with --pipe")
     plan, calls = read_plan(asked.plan), calls_of(asked.library)
     if plan.exposed:
         LOG.warning("%s", plan.exposed)
+    return played(plan, calls, asked.folder, way_of(asked, plan), Progress(sys.stderr if asked.pipe else sys.stdout), asked.begin)
+
+
+def way_of(asked: argparse.Namespace, plan: Plan) -> Callable[[], Carrier]:
+    """What makes the way to the devices that the words ask for."""
+    if asked.simulated and not asked.pipe:
+        raise Wrong("--simulated goes with --pipe")
     if asked.pipe:
-        return played(plan, calls, asked.folder, partial(Pipe, asked.simulated), Progress(sys.stderr))
-    server = server_of(plan, ", and no --pipe")
+        return partial(Pipe, asked.simulated)
     client = "fuota-" + hashlib.sha256(os.fsencode(os.path.realpath(asked.folder))).hexdigest()[:16]
-    return played(plan, calls, asked.folder, partial(Mqtt, server, client), Progress(sys.stdout))
+    return partial(Mqtt, server_of(plan, ", and no --pipe"), client)
+
+
+def clean(asked: argparse.Namespace) -> int:
+    plan, calls = read_plan(asked.plan), calls_of(asked.library)
+    if not is_used(asked.folder):
+        raise Wrong(f"{asked.folder}: no campaign is kept there")
+    stream = sys.stderr if asked.pipe else sys.stdout
+    shown = Progress(stream)
+    with contextlib.ExitStack() as open_things:
+        folder = Folder(asked.folder)
+        open_things.callback(folder.close)
+        carrier = way_of(asked, plan)()
+        open_things.callback(carrier.close)
+        cleaning = Cleaning(plan, folder, carrier, calls, asked.image, asked.anyway)
+        open_things.callback(shown.close)
+        while cleaning.step():
+            shown.put(carrier.now(), cleaning.line)
+        shown.put(carrier.now(), cleaning.line, is_last=True)
+    for line in cleaning.table():
+        print(line, file=stream)
+    return words.DONE if cleaning.is_done else NOT_ALL
 
 
 def calls_of(path: str | None) -> library.Library:
@@ -191,14 +224,15 @@ def calls_of(path: str | None) -> library.Library:
         raise Wrong(f"the library: {why}; a wheel of fuota has it, and tools/c_library makes it") from None
 
 
-def played(plan: Plan, calls: library.Library, path: pathlib.Path, way: Callable[[], Carrier], shown: Progress) -> int:
+def played(plan: Plan, calls: library.Library, path: pathlib.Path, way: Callable[[], Carrier], shown: Progress,
+           is_forced: bool = False) -> int:
     """Plays a campaign to its end; of a rehearsal, which takes no time, only the end is shown."""
     with contextlib.ExitStack() as open_things:
         folder = Folder(path)
         open_things.callback(folder.close)
         carrier = way()
         open_things.callback(carrier.close)
-        campaign = Campaign(plan, folder, carrier, calls)
+        campaign = Campaign(plan, folder, carrier, calls, is_forced)
         open_things.callback(shown.close)
         while campaign.step():
             if not isinstance(carrier, Rehearsal):

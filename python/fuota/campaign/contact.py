@@ -11,6 +11,8 @@ from .plan import Retry, moment_of
 SETUP = STAGES[:STAGES.index("status")]
 # After this many reports of missing pieces once sending has ended, give up.
 BELIEVED = 3
+# So many answers for the time go out in turn with the requests, to a device whose clock was wrong at its answer for the window.
+IN_TURN = 4
 
 
 class Standing(enum.Enum):
@@ -34,10 +36,12 @@ class Contact:
         # Its words over time, each with its moment.
         self.words = [("version", since)]
         self.tries, self.due = 0, 0
-        # How many pieces it missed at last, how often it did so once sending had ended, and when it was heard.
+        # How many pieces it missed at last, how often it did so once sending had ended, when it told so, and when it was heard.
         self.missing: int | None = None
-        self.short = 0
+        self.short, self.told_at = 0, 0
         self.heard_at: int | None = None
+        # What it answered to delete, after the campaign, each with the number of the answer.
+        self.deleted: dict[str, int] = {}
         # The stage at which it refused, with the bits and the text of its answer; and the ms that its clock was behind, or, where it
         # took the window for past, that it was ahead at least.
         self.refused_at, self.refusal = "", ""
@@ -46,13 +50,25 @@ class Contact:
         self.was_past = False
         # Payloads that wait for an uplink of it, and whether it was heard since it was due.
         self.queued, self.was_heard = 0, False
-        # The newest answer that waits to be sent, and when the last one was: with the same distance as requests have.
+        # The newest answer that waits to be sent; how many it had, and when the last one was: with the distance of requests.
         self.waiting: Down | None = None
-        self.answered_at = 0
+        self.given, self.answered_at = 0, 0
+        # Whether its clock was wrong after it was answered, so that the answer was lost.
+        self.is_astray = False
 
     @property
     def is_silent(self) -> bool:
         return self.standing is Standing.SILENT
+
+    @property
+    def is_ready(self) -> bool:
+        """Whether it is set up for the window: it waits for fragments, or heard them all."""
+        return self.stage not in (*SETUP, "refused")
+
+    @property
+    def is_patient(self) -> bool:
+        """Whether an answer to it waits until no request is due: it had one that nothing says was lost, or it had many."""
+        return self.given > 0 and not (self.is_astray and self.given < IN_TURN)
 
     @property
     def is_done(self) -> bool:
@@ -106,12 +122,14 @@ class Contact:
         t = line["t"]
         if "heard" in line:
             self.heard_at = t
+        if "deleted" in line:
+            self.deleted[line["deleted"]] = line["error"]
         if "silent" in line:
             self.tries, self.standing = line["tries"], Standing.SILENT
         if "bits" in line:
             self.refused_at, self.bits, self.refusal = line["request"], line["bits"], line.get("answer", self.refusal)
         if "behind" in line:
-            self.behind, self.was_past = line["behind"], line["start"] == 0
+            self.behind, self.was_past, self.is_astray = line["behind"], line["start"] == 0, True
         elif line.get("sent") == "answer":
             # (it was given the time since)
             self.behind = None
@@ -121,14 +139,19 @@ class Contact:
             self.tries += 1
             self.ask_later(t)
         if line.get("sent") == "answer":
-            self.answered_at = t
+            self.given, self.answered_at = self.given + 1, t
         if "missing" in line:
-            self.missing = line["missing"]
-            self.short += bool(line["over"] and line["missing"] > 0)
+            self.take_missing(line)
         if line.get("back"):
             self.ask_anew(t)
         if self.word != self.words[-1][0]:
             self.words.append((self.word, t))
+
+    def take_missing(self, line: dict[str, Any]) -> None:
+        """It told what it misses. What it waits for then is a fragment, where one may come."""
+        self.missing, self.told_at = line["missing"], line["t"]
+        self.short += bool(line["over"] and line["missing"] > 0)
+        self.tries = self.tries if line["over"] else 0
 
     def move(self, t: int, stage: str) -> None:
         """Its stage is this. A device that reboots is not asked at once."""
@@ -143,6 +166,14 @@ class Contact:
 
     def ask_anew(self, t: int) -> None:
         self.tries, self.due, self.standing = 0, t, Standing.ASKED
+
+    def start_over(self, t: int) -> None:
+        """It is asked from the first stage on, for another window."""
+        self.stage, self.missing, self.short = "version", None, 0
+        self.refused_at, self.refusal, self.bits = "", "", None
+        self.ask_anew(t)
+        if self.word != self.words[-1][0]:
+            self.words.append((self.word, t))
 
     def resume(self) -> None:
         """A plan may allow more tries than when it was given up."""

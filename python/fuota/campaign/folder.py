@@ -1,4 +1,5 @@
 """The folder of a campaign: the server's bytes, a journal of what was sent and heard, and a lock."""
+import contextlib
 import fcntl
 import os
 import pathlib
@@ -38,6 +39,14 @@ def first_server(plan: Plan, calls: library.Library | None) -> library.Server:
     return library.Server(*words_of(plan), calls)
 
 
+def restored(plan: Plan, saved: bytes, calls: library.Library | None) -> tuple[library.Server, Plan]:
+    """The server that saved these bytes, with the plan for the start of the window that it is for; `Corrupt` where it is none of them."""
+    for each in plan.at_each_start():
+        with contextlib.suppress(library.Corrupt):
+            return library.Server.restore(*words_of(each), saved, calls), each
+    raise library.Corrupt
+
+
 class Folder:
     """The folder of a campaign, which one process at a time works on."""
 
@@ -68,12 +77,10 @@ class Folder:
         """Whether a server was kept."""
         return self._saved is not None
 
-    def server_of(self, plan: Plan, calls: library.Library | None) -> library.Server:
-        """The server of a plan as it was kept, or else at its start."""
+    def server_of(self, plan: Plan, calls: library.Library | None) -> tuple[library.Server, Plan]:
+        """The server of a plan as it was kept, with the plan for the start of the window that it is for; or else at its start."""
         try:
-            if self._saved is None:
-                return first_server(plan, calls)
-            return library.Server.restore(*words_of(plan), self._saved, calls)
+            return (first_server(plan, calls), plan) if self._saved is None else restored(plan, self._saved, calls)
         except library.Corrupt:
             raise Wrong(f"{self.path / 'state'}: broken, or of another plan or image; nothing was sent") from None
         except library.WrongField as why:

@@ -3,6 +3,7 @@ import json
 import logging
 import os
 import pathlib
+from dataclasses import dataclass
 from typing import Any
 
 from ..errors import Wrong
@@ -61,6 +62,18 @@ def lines_of(text: bytes, path: pathlib.Path) -> list[Line]:
     return found
 
 
+@dataclass
+class KeptWindow:
+    """A window of a campaign, in ms of Unix time. As it opened so many devices were ready, of so many needed, and it was decided to
+    `begin`, to `wait` for the next window, or to `ask`; None where nothing was decided."""
+
+    opens: int
+    closes: int
+    decided: str | None = None
+    ready: int | None = None
+    needed: int | None = None
+
+
 class History:
     """What a journal tells of a campaign: how it began, its devices, and what went out. A campaign that goes on hands each
     line that it writes to `take` too."""
@@ -69,15 +82,22 @@ class History:
         self.retry = retry
         self.contacts: dict[str, Contact] = {}
         self.carrier: str | None = None
-        self.index, self.fragments = 0, 0
+        self.index, self.fragments, self.reserve = 0, 0, 0
+        # The rounds of the reserve, and how many fragments go out up to the end of the last one.
+        self.rounds, self.until = 0, 0
         # How many fragments were taken from the server.
         self.number = 0
         self.begin, self.last = 0, 0
-        # The window's begin and end, and the group's next frame count; none where the journal tells none.
-        self.window: tuple[int, int] | None = None
+        # The windows so far, and the group's next frame count; none where the journal tells none.
+        self.windows: list[KeptWindow] = []
         self.next_count: int | None = None
-        # When fragments went out; and by unicast and to the group the last payload's moment and its ms on the air.
+        # When planned fragments went out, and those of the reserve; when the last one did; and by unicast and to the group the last
+        # payload's moment and its ms on the air.
         self.fragments_at: list[int] = []
+        self.reserve_at: list[int] = []
+        self.fragment_at = 0
+        # When all devices were asked at once what they miss, and how often since the last fragment.
+        self.status_at, self.asked = 0, 0
         self.sent: dict[bool, tuple[int, float]] = {}
         # The fragment that went out last by unicast, and the devices that it went to.
         self.copied, self.copied_to = 0, set[str]()
@@ -91,18 +111,24 @@ class History:
         self.last = line["t"]
         if "devices" in line:
             self.begin, self.carrier = line["t"], line["by"]
-            self.index, self.fragments = line["index"], line["fragments"]
+            self.index, self.fragments, self.reserve = line["index"], line["fragments"], line.get("reserve", 0)
             self.contacts = {eui: Contact(number, eui, self.begin, self.retry) for number, eui in enumerate(line["devices"], 1)}
         if "opens" in line:
-            self.window, self.next_count = (line["opens"], line["closes"]), line["first"]
+            self.take_window(line)
+        last = self.last_window
+        if "decided" in line and last:
+            last.decided, last.ready, last.needed = line["decided"], line["ready"], line["needed"]
         for name in ("count", "given"):
             if name in line:
                 self.next_count = max(self.next_count or 0, line[name] + 1)
+        if "until" in line:
+            self.rounds, self.until = self.rounds + 1, line["until"]
         if "number" in line:
             self.number = line["number"]
+        if line.get("sent") == "status":
+            self.status_at, self.asked = line["t"], self.asked + 1
         if line.get("sent") == "fragment":
-            self.fragments_at.append(line["t"])
-            self.take_copy(line)
+            self.take_fragment(line)
         if "air" in line:
             self.sent["count" in line] = line["t"], line["air"]
         if "sent" in line and "device" in line:
@@ -111,8 +137,27 @@ class History:
         if contact:
             contact.take(line)
 
-    def take_copy(self, line: Line) -> None:
+    @property
+    def last_window(self) -> KeptWindow | None:
+        return self.windows[-1] if self.windows else None
+
+    @property
+    def window(self) -> tuple[int, int] | None:
+        """Begin and end of the last window."""
+        return (self.windows[-1].opens, self.windows[-1].closes) if self.windows else None
+
+    def take_window(self, line: Line) -> None:
+        """A window comes: the first one in the first line, or one in the place of another, for which all devices are asked anew."""
+        self.windows.append(KeptWindow(line["opens"], line["closes"]))
+        self.next_count = line.get("first", self.next_count)
+        if len(self.windows) > 1:
+            for contact in self.contacts.values():
+                contact.start_over(line["t"])
+
+    def take_fragment(self, line: Line) -> None:
         """A fragment went out, by unicast where it names a device."""
+        (self.fragments_at if line["number"] <= self.fragments else self.reserve_at).append(line["t"])
+        self.fragment_at, self.asked = line["t"], 0
         if line["number"] != self.copied:
             self.copied, self.copied_to = line["number"], set()
         if "device" in line:

@@ -232,7 +232,7 @@ class Mqtt(Carrier):
     def differences(self, plan: Plan, is_new: bool, calls: Library | None) -> Iterator[str]:
         """What is otherwise at the network server than in a plan."""
         group = group_of(plan, library_of(calls), is_new) if plan.group else None
-        return self.server.differences(group, euis_of(plan))
+        return self.server.differences(group, plan.region.name, euis_of(plan))
 
     def hold(self, plan: Plan, is_new: bool, calls: Library | None) -> None:
         try:
@@ -242,6 +242,13 @@ class Mqtt(Carrier):
             return
         if wrong:
             raise Refusing("the network server is set up otherwise than the plan: " + "; ".join(wrong))
+
+    def never_heard(self, plan: Plan) -> list[str]:
+        try:
+            return self.server.never_heard(euis_of(plan))
+        except (Lost, Refusing) as why:
+            LOG.warning("the network server does not tell which devices it heard: %s", why)
+            return []
 
     def away_since(self) -> int | None:
         return None if self.is_connected or self.now() - self.since < BLINK else self.since

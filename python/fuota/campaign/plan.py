@@ -1,160 +1,20 @@
 """A campaign's plan, as a file in TOML has it: plan.toml beside this module explains each field."""
-import datetime
 import math
 import pathlib
 import stat
-from dataclasses import dataclass
-from typing import Any
+from collections.abc import Iterator
+from dataclasses import dataclass, replace
+from typing import Any, Optional
 
 from .. import fields, image, library, lns
 from ..errors import Wrong
-from ..fields import Place, choice, digits, file, member, number, raw_table, seconds, table, tables, whole, word
-from ..limits import MAX_CODED, MAX_DEVICES, MAX_PIECE, MAX_PIECES, MAX_ROWS
-from ..lns.server import EUI, eui_of
-from ..regions import DEFAULT, REGIONS, Region
+from ..fields import Place
+from ..limits import MAX_CODED, MAX_PIECES, MAX_ROWS
+from ..regions import REGIONS, Region
 from ..theory import FRAGMENT_HEAD, FRAME, air_time, chain_of, complete_shares, duration, time_of
-
-# Unix time of the GPS epoch, and the leap seconds since, in ms.
-GPS_EPOCH, LEAP = 315_964_800_000, 18_000
-# Seconds from a beacon of class B to the next one.
-BEACON = 128
-# The last data rate that a number of four bits can name.
-LAST_RATE = 15
-LAST_COUNT = 2**32 - 1
-
-
-def gps(t: int) -> int:
-    """ms of GPS time for ms of Unix time."""
-    return t - GPS_EPOCH + LEAP
-
-
-def moment_of(t: int) -> str:
-    """ms of Unix time as a text."""
-    return datetime.datetime.fromtimestamp(t // 1000, datetime.timezone.utc).strftime("%Y-%m-%d %H:%M:%S UTC")
-
-
-# ---- Its tables
-
-
-@dataclass(frozen=True, kw_only=True)
-class Fragments:
-    """The bytes of a piece, and how many coded fragments: a number, or what a loss and a share of devices need by theory."""
-
-    size: int = member(whole(1, MAX_PIECE))
-    coded: int | None = member(whole(0, MAX_CODED), None)
-    loss: float | None = member(number(0, 99), None)
-    share: float | None = member(number(1, 99.99), None)
-    burst: float | None = member(number(1, MAX_PIECES), None)
-    rows: int | None = member(whole(0, MAX_ROWS), None)
-    index: int = member(whole(0, 3), 0)
-
-
-@dataclass(frozen=True, kw_only=True)
-class Group:
-    """A multicast group, with its first frame count and the first that is not used any more."""
-
-    id: int = member(whole(0, 3), 0)
-    address: bytes = member(digits(8))
-    key: bytes = member(digits(32))
-    first: int = member(whole(0, LAST_COUNT - 1), 0)
-    end: int = member(whole(1, LAST_COUNT))
-
-    @property
-    def number(self) -> int:
-        """The address as a number."""
-        return int.from_bytes(self.address, "big")
-
-
-@dataclass(frozen=True, kw_only=True)
-class Window:
-    """A class session. `start` is ms of Unix time; nothing is sent in its first and its last `guard` ms."""
-
-    kind: str = member(choice("B", "C"), name="class")
-    start: int = member(fields.moment)
-    timeout: int = member(whole(0, 15))
-    periodicity: int | None = member(whole(0, 7), None)
-    frequency: int = member(whole(100_000_000, 1_677_721_500))
-    data_rate: int = member(whole(0, LAST_RATE))
-    guard: int = member(seconds(0, 3_600), 2_000)
-
-    @property
-    def opens(self) -> int:
-        """ms of Unix time; class B begins with a beacon."""
-        second = gps(self.start) // 1000
-        return self.start - (second % BEACON * 1000 if self.kind == "B" else 0)
-
-    @property
-    def length(self) -> int:
-        return (1 << self.timeout) * 1000 * (BEACON if self.kind == "B" else 1)
-
-    @property
-    def closes(self) -> int:
-        return self.opens + self.length
-
-
-@dataclass(frozen=True, kw_only=True)
-class Pace:
-    """The least distance of downlinks in ms, the percent of time on the air, the data rate of what goes by unicast, or the region's
-    slowest, and the ms in which a device of class A sends an uplink, or those of a retry."""
-
-    distance: int = member(seconds(0, 86_400))
-    duty_cycle: float = member(number(0.01, 100))
-    unicast_data_rate: int | None = member(whole(0, LAST_RATE), None)
-    uplink_period: int | None = member(seconds(0.001, 2_592_000), None)
-
-
-@dataclass(frozen=True, kw_only=True)
-class Retry:
-    """The ms until a request is tried again, and how often it is tried."""
-
-    distance: int = member(seconds(0.001, 604_800))
-    tries: int = member(whole(1, 1_000))
-
-
-def eui(value: Any) -> bytes:
-    """Reads an EUI of 16 hex digits, maybe with separators."""
-    octets: bytes = digits(16)(eui_of(value) if isinstance(value, str) and EUI.fullmatch(value) else value)
-    return octets
-
-
-@dataclass(frozen=True, kw_only=True)
-class Device:
-    """A device. What goes to one of class A waits in its network server's queue for an uplink. It has a GenAppKey of LoRaWAN
-    1.0, or an AppKey of LoRaWAN 1.1."""
-
-    eui_bytes: bytes = member(eui, name="eui")
-    gen_app_key: bytes | None = member(digits(32), None)
-    app_key: bytes | None = member(digits(32), None)
-    kind: str = member(choice("A", "C"), name="class")
-    id: str | None = member(word, None)
-
-    @property
-    def eui(self) -> str:
-        return self.eui_bytes.hex()
-
-    @property
-    def is_class_c(self) -> bool:
-        return self.kind == "C"
-
-    @property
-    def for_library(self) -> library.PlanDevice:
-        """The device as the library takes it."""
-        return library.PlanDevice(key=self.app_key or self.gen_app_key, is_v11=self.app_key is not None)
-
-
-@dataclass(frozen=True, kw_only=True)
-class File:
-    """A whole file."""
-
-    image: pathlib.Path = member(file)
-    region: str = member(choice(*REGIONS), DEFAULT)
-    fragments: Fragments = table(Fragments)
-    group: Group | None = table(Group, None)
-    window: Window | None = table(Window, None)
-    pace: Pace = table(Pace)
-    retry: Retry = table(Retry)
-    server: dict[str, Any] | None = member(raw_table, None)
-    devices: tuple[Device, ...] = tables(Device, MAX_DEVICES)
+from .tables import (BEACON as BEACON, GPS_EPOCH as GPS_EPOCH, LAST_COUNT as LAST_COUNT, LAST_RATE as LAST_RATE, LEAP as LEAP,
+                     Device as Device, File as File, Fragments as Fragments, Group as Group, Pace as Pace, Retry as Retry,
+                     Window as Window, eui as eui, gps as gps, moment_of as moment_of)
 
 
 # ---- What a plan is
@@ -178,6 +38,7 @@ class Plan:
     retry: Retry
     server: lns.Server | None
     devices: tuple[Device, ...]
+    reserve: int = 0
 
     @property
     def pieces(self) -> int:
@@ -185,7 +46,19 @@ class Plan:
 
     @property
     def fragments(self) -> int:
+        """How many fragments are planned; those in reserve come on top."""
         return self.pieces + self.coded
+
+    @property
+    def in_all(self) -> int:
+        """How many fragments there are with the reserve."""
+        return self.fragments + self.reserve
+
+    @property
+    def last_count(self) -> int:
+        """The last frame count that the group needs: for each fragment, a request for the status, and one more for each round of the
+        reserve, of which each has a fragment at least."""
+        return self.group.first + self.fragments + 2 * self.reserve if self.group else 0
 
     def air(self, length: int, is_group: bool) -> float:
         """The ms that a payload is on the air."""
@@ -235,7 +108,7 @@ class Plan:
 
     def for_library(self) -> library.Plan:
         """The plan as the library takes it."""
-        told: dict[str, Any] = {"frag_size": self.size, "parity": self.coded, "index": self.index}
+        told: dict[str, Any] = {"frag_size": self.size, "parity": self.coded + self.reserve, "index": self.index}
         if self.group and self.window:
             group, window = self.group, self.window
             told |= {"has_group": True, "addr": group.number, "min": group.first, "max": group.end, "id": group.id,
@@ -243,6 +116,29 @@ class Plan:
                      "freq": window.frequency // 100, "timeout": window.timeout, "dr": window.data_rate,
                      "is_class_b": window.kind == "B", "periodicity": window.periodicity or 0}
         return library.Plan(**told)
+
+    @property
+    def following(self) -> Optional["Plan"]:
+        """The plan for the next start of its window; None where it has no further one."""
+        window = self.window and self.window.following
+        return replace(self, window=window) if window else None
+
+    def at_each_start(self) -> Iterator["Plan"]:
+        """The plan for each start of its window; itself alone without one."""
+        plan: Plan | None = self
+        while plan:
+            yield plan
+            plan = plan.following
+
+    @property
+    def windows(self) -> list[Window]:
+        """Its window at each of its starts; none by unicast."""
+        return [plan.window for plan in self.at_each_start() if plan.window]
+
+    @property
+    def needed(self) -> int:
+        """How many devices have to be ready as the window opens."""
+        return math.ceil(len(self.devices) * (self.window.ready if self.window else 0) / 100)
 
     @property
     def exposed(self) -> str | None:
@@ -277,11 +173,9 @@ def read_plan(path: str | pathlib.Path, has_group: bool = True) -> Plan:
     server = None if told.server is None else lns.read(place.inner("server"), told.server, has_group and told.group is not None)
     loss = None if told.fragments.loss is None else told.fragments.loss / 100
     plan = Plan(place.file, made, REGIONS[told.region], told.fragments.size, coded, loss, told.fragments.index, told.group, told.window,
-                told.pace, told.retry, server, told.devices)
-    hold_region(plan, place)
-    hold_devices(plan, place)
-    hold_retry(plan, place)
-    hold_window(plan, place)
+                told.pace, told.retry, server, told.devices, told.fragments.reserve)
+    for hold in (hold_reserve, hold_region, hold_devices, hold_retry, hold_window, hold_starts, hold_ready):
+        hold(plan, place)
     return plan
 
 
@@ -305,6 +199,13 @@ def coded_for(fragments: Fragments, pieces: int, place: Place) -> int:
         raise place.wrong(f"{fragments.share:g} % of the devices are not complete with {MAX_CODED} coded fragments: take more "
                           "rows, longer pieces, or a smaller share", "share")
     return found
+
+
+def hold_reserve(plan: Plan, place: Place) -> None:
+    """Refuses more coded fragments than there are, those in reserve with them."""
+    if plan.coded + plan.reserve > MAX_CODED:
+        raise place.wrong(f"{plan.coded} coded fragments and {plan.reserve} in reserve, and not at most {MAX_CODED} together",
+                          "fragments.reserve")
 
 
 def hold_region(plan: Plan, place: Place) -> None:
@@ -351,14 +252,37 @@ def hold_window(plan: Plan, place: Place) -> None:
         raise place.wrong(f"data rate {number} carries pieces of {longest} bytes at most", "fragments.size")
     if not group or not window:
         return
-    if not 0 <= gps(window.start) // 1000 < 2**32:
-        raise place.wrong(f"{moment_of(window.start)} is not within the 32 bits of GPS time", "window.start")
     if window.frequency % 100:
         raise place.wrong(f"{window.frequency} Hz is not a multiple of 100 Hz", "window.frequency")
     if window.kind == "B" and window.periodicity is None:
         raise place.wrong('missing field "periodicity", which class B needs', "window")
     if window.kind == "C" and window.periodicity is not None:
         raise place.wrong("only a window of class B has one", "window.periodicity")
-    if not group.first + plan.fragments < group.end:
-        raise place.wrong(f"{plan.fragments} fragments and a request for the status need the frame counts from {group.first} to "
-                          f"{group.first + plan.fragments}, and {group.end} ends before", "group.end")
+    if not plan.last_count < group.end:
+        needs = f"{plan.reserve} in reserve and requests for the status need" if plan.reserve else "and a request for the status need"
+        raise place.wrong(f"{plan.fragments} fragments{',' * bool(plan.reserve)} {needs} the frame counts from {group.first} to "
+                          f"{plan.last_count}, and {group.end} ends before", "group.end")
+
+
+def hold_starts(plan: Plan, place: Place) -> None:
+    """Refuses starts of the window that no device can be told, and those that do not rise."""
+    before, name = -math.inf, "window.start"
+    for window in plan.windows:
+        if not 0 <= gps(window.start) // 1000 < 2**32:
+            raise place.wrong(f"{moment_of(window.start)} is not within the 32 bits of GPS time", name)
+        if window.opens < before:
+            raise place.wrong(f"the window of {moment_of(window.start)} opens before the one before it closes", name)
+        before, name = window.closes, "window.again"
+
+
+def hold_ready(plan: Plan, place: Place) -> None:
+    """Refuses what is said of devices that are not ready where it says nothing, or not all."""
+    window = plan.window
+    if window and window.ready and not window.otherwise:
+        raise place.wrong('missing field "otherwise" (begin, wait or ask), which ready needs', "window")
+    if window and not window.ready and (window.otherwise or window.again):
+        raise place.wrong(f'missing field "ready", without which {"otherwise" if window.otherwise else "again"} says nothing', "window")
+    if window and window.otherwise == "wait" and not window.again:
+        raise place.wrong('missing field "again" (the further starts of the window), which otherwise = "wait" needs', "window")
+    if window and window.otherwise == "begin" and window.again:
+        raise place.wrong('there is no further window where otherwise = "begin"', "window.again")

@@ -1,174 +1,37 @@
 """A campaign, step by step: what goes out when. What is sent, and what an answer means, is the library's server's."""
 import math
-from collections.abc import Callable, Iterator
+from collections.abc import Iterator
 from functools import partial
-from typing import Any
 
 from .. import library
-from ..errors import Wrong
-from .carrier import LOG, Carrier, Lost, Uplink
+from .carrier import Uplink
 from .contact import SETUP, Contact
-from .folder import Folder, first_server
 from .heard import clock_error, missing_in, texts_of
-from .journal import VERSION, History, Line
-from .plan import Plan, gps
-from .reckoning import lateness, unfit
-
-# The ms until a network server that did not take a payload is tried again: the first time, and at most.
-FIRST_HOLD, LONGEST_HOLD = 1_000, 60_000
-Action = tuple[float, Callable[[], None]]
+from .journal import Line
+from .opening import Action
+from .plan import gps
+from .reserve import Rounds
 
 
-class Pace:
-    """From when on a downlink may go out: the air of the group and that of devices are counted apart, as they lie on
-    frequencies of their own."""
-
-    def __init__(self, plan: Plan, sent: dict[bool, tuple[int, float]]) -> None:
-        self.plan = plan
-        self.at: dict[bool, float] = {True: 0, False: 0}
-        for is_group, (t, air) in sorted(sent.items(), key=lambda one: one[1]):
-            self.count(t, air, is_group)
-
-    def count(self, t: int, air: float, is_group: bool) -> None:
-        """A payload went out, and is so many ms on the air."""
-        self.at[is_group] = t + self.plan.distance(air)
-        self.pause(t + self.plan.pace.distance)
-
-    def pause(self, t: int) -> None:
-        """Nothing goes out before this moment."""
-        self.at = {way: max(at, t) for way, at in self.at.items()}
-
-
-class Campaign:
+class Campaign(Rounds):
     """A campaign over a carrier, kept in a folder."""
 
-    def __init__(self, plan: Plan, folder: Folder, carrier: Carrier, calls: library.Library | None = None) -> None:
-        self.plan, self.folder, self.carrier, self.calls = plan, folder, carrier, library.library_of(calls)
-        self.hold = 0
-        self.copies: list[tuple[Contact, int, library.Down]] = []
-        self.history = History(folder.journal.lines, plan.retry)
-        self.pace = Pace(plan, self.history.sent)
-        self.server = folder.server_of(plan, self.calls)
-        self.begin()
-
-    # ---- Begun, and begun again
-
-    def begin(self) -> None:
-        """Holds plan and carrier against the journal, and notes the begin."""
-        now = self.carrier.now()
-        euis = [device.eui for device in self.plan.devices]
-        is_new = not self.history.contacts
-        if not is_new and (list(self.history.contacts), self.history.carrier) != (euis, self.carrier.name):
-            raise Wrong(f"{self.folder.path}: its campaign was begun with other devices, or by {self.history.carrier}")
-        if not self.folder.has_server:
-            self.refuse_unfit(now)
-        self.carrier.hold(self.plan, is_new, self.calls)
-        self.keep()
-        if is_new:
-            self.note(version=VERSION, devices=euis, by=self.carrier.name, index=self.plan.index, fragments=self.plan.fragments,
-                      **self.begin_members())
-        else:
-            self.note(again=True, number=self.sent)
-        for contact in self.contacts:
-            contact.resume()
-            # (what was kept of the server may be a line ahead of the journal)
-            told = self.stage_of(contact)
-            if contact.stage != told["stage"]:
-                self.note(device=contact.eui, **told)
-        self.copies = self.copies_left()
-
-    def begin_members(self) -> dict[str, int]:
-        """What the first line of the journal tells of a group and its window."""
-        group, window = self.plan.group, self.plan.window
-        return {"first": group.first, "opens": window.opens, "closes": window.closes} if group and window else {}
-
-    def copies_left(self) -> list[tuple[Contact, int, library.Down]]:
-        """By unicast, the copies of the last fragment that had not gone out as the command ended."""
-        number = self.sent
-        has_it = self.history.copied_to if self.history.copied == number else set()
-        left = [contact for contact in self.contacts if contact.stage == "status" and contact.eui not in has_it]
-        if self.plan.group or not number or not left:
-            return []
-        down = self.fragment(number)
-        return [(contact, number, down) for contact in left]
-
-    def fragment(self, number: int) -> library.Down:
-        """A fragment that was taken from the server before. It hangs on plan and image alone: a server at its start, which is
-        never kept, gives it once more. By unicast no frame count is spent by that."""
-        with first_server(self.plan, self.calls) as server:
-            downs = [server.next_fragment() for _ in range(number)]
-        return self.given(downs[-1])
-
-    def given(self, down: library.Down | None) -> library.Down:
-        """What the server gave, which has to be something."""
-        if down is None:
-            raise Wrong(f"{self.folder.path}: the server has nothing to send where it should")
-        return down
-
-    def refuse_unfit(self, now: int) -> None:
-        """A campaign that can't end well is not begun."""
-        fault = unfit(self.plan, now)
-        if fault:
-            raise Wrong(f"{self.plan.file}: {fault}")
-        late = lateness(self.plan, now)
-        if late:
-            LOG.warning("%s", late)
-
-    @property
-    def contacts(self) -> list[Contact]:
-        return list(self.history.contacts.values())
-
-    def stage_of(self, contact: Contact) -> dict[str, Any]:
-        """Where a device stands, as the journal has it: a refused one with the stage and the bits of its refusal."""
-        stage = self.server.ledger(contact.number)
-        if stage.stage != library.StageKind.STOPPED:
-            return {"stage": stage.word}
-        return {"stage": stage.word, "request": library.Request(stage.request).word, "bits": stage.bits}
-
-    def keep(self) -> None:
-        self.folder.keep(self.server.save())
-
-    def note(self, **told: Any) -> None:
-        """Writes a line of the journal, and takes over what it says."""
-        line = {"t": self.carrier.now(), **told}
-        self.folder.journal.write(line)
-        self.history.take(line)
-
     # ---- What is to do
-
-    @property
-    def sent(self) -> int:
-        """How many fragments were taken from the server."""
-        return self.server.fragment_number() - 1
-
-    @property
-    def group_payloads(self) -> int:
-        """How many payloads were taken for the group."""
-        return self.server.frame_count() - (self.plan.group.first if self.plan.group else 0)
-
-    def within(self, moment: float) -> float | None:
-        """The moment, or the window's begin if that is later; None after the window's end."""
-        window = self.plan.window
-        if window is None:
-            return moment
-        moment = max(moment, window.opens + window.guard)
-        return moment if moment < window.closes - window.guard else None
-
-    def is_over(self, moment: float) -> bool:
-        """Whether no fragment goes out any more: none is left, or the window is past."""
-        return self.sent == self.plan.fragments or self.within(moment) is None
 
     def next_action(self) -> Action | None:
         """When something is to do, and what; None where nothing is any more."""
         now = self.carrier.now()
+        if self.decided == "wait":
+            later = self.later()
+            return (now, partial(self.move_to, later)) if later else None
         to_all, to_each = (max(now, self.pace.at[is_group]) for is_group in (self.plan.group is not None, False))
         fragments = [*self.to_all(to_all)]
-        requests = [*self.to_each(to_each, self.is_over(to_all) and not self.copies)]
+        requests = [*self.to_each(to_each, self.is_asking(to_all) and not self.copies)]
         if not fragments and not requests:
             return None
         answers, again = ([*self.to_who_asked(to_each, is_again)] for is_again in (False, True))
         # (of what is due at one moment the first goes out: what goes to the group, then by turns, where a device that was answered
-        # before comes after all requests)
+        # before comes after all requests, unless its answer was lost)
         first, others = (fragments, requests) if self.plan.group else ([], fragments + requests)
         if not any(moment <= to_each for moment, _ in requests):
             answers += again
@@ -181,31 +44,35 @@ class Campaign:
         moment = self.within(free)
         if self.copies:
             yield free, self.send_copy
-        elif moment is not None and not self.is_over(free):
+        elif not self.is_begun:
+            yield self.opening()
+        elif moment is not None and self.sent < self.target:
             is_settled = all(contact.stage not in SETUP or contact.is_silent for contact in self.contacts)
             if is_awaited and (is_settled or self.plan.group):
                 yield moment, self.send_fragment
-        elif moment is not None and self.plan.group and is_awaited and self.sent == self.plan.fragments == self.group_payloads:
-            yield free, self.send_status
+        elif moment is not None and is_awaited and not self.is_over(free):
+            yield from self.rounds(free)
+        elif moment is not None and is_awaited:
+            yield from self.last_status(free)
 
-    def to_each(self, free: float, is_over: bool) -> Iterator[Action]:
+    def to_each(self, free: float, is_asking: bool) -> Iterator[Action]:
         """The requests, and the ends of waiting: those before the fragments, and those after them. Devices that do not answer
         hold up no others: the least often asked comes first, and of these the one that is due longest."""
         for contact in sorted(self.contacts, key=lambda contact: (contact.tries, contact.due)):
-            is_asked = contact.stage not in SETUP + ("status",) or is_over == (contact.stage == "status")
-            if contact.is_done or contact.is_silent or not is_asked:
+            is_asked = contact.stage not in SETUP + ("status",) or is_asking == (contact.stage == "status")
+            if contact.is_done or contact.is_silent or not is_asked or self.waits_for_round(contact, free):
                 continue
             if contact.is_spent:
                 yield contact.due, partial(self.give_up, contact)
             else:
-                yield max(free, contact.due), partial(self.ask, contact)
+                yield max(free, contact.due, self.asked_one_by_one(contact)), partial(self.ask, contact)
 
     def to_who_asked(self, free: float, is_again: bool) -> Iterator[Action]:
         """The answers that wait, to devices that were answered before or to the others; the first to whom the last one is longest
         ago. A device that asks again and again has no more of them than of requests, and none while something waits for an uplink
         of it."""
         for contact in sorted(self.contacts, key=lambda contact: contact.answered_at):
-            if contact.waiting and not contact.queued and is_again == (contact.answered_at > 0):
+            if contact.waiting and not contact.queued and is_again == contact.is_patient:
                 yield max(free, contact.answered_at + self.plan.retry.distance), partial(self.answer, contact)
 
     def step(self) -> bool:
@@ -220,65 +87,6 @@ class Campaign:
         return True
 
     # ---- What is done
-
-    def pause_unless_up(self) -> bool:
-        """Whether a carrier that lost a payload takes payloads again; where it does not nothing goes out for a while."""
-        if self.hold and not self.carrier.is_up():
-            self.pause()
-            return False
-        return True
-
-    def pause(self) -> None:
-        self.hold = min(2 * self.hold or FIRST_HOLD, LONGEST_HOLD)
-        self.pace.pause(self.carrier.now() + self.hold)
-
-    def send(self, down: library.Down | None, contact: Contact | None = None, **told: Any) -> None:
-        """Sends what the server gave, once that it gave it is kept and noted."""
-        down = self.given(down)
-        air = self.plan.air(down.length, down.is_group)
-        self.pace.count(self.carrier.now(), air, down.is_group)
-        self.keep()
-        if contact:
-            told["device"] = contact.eui
-        if down.is_group:
-            told["count"] = down.count
-        self.note(**told, air=round(air))
-        try:
-            if down.is_group and self.plan.group:
-                given = self.carrier.to_group(self.plan.group, down.count, down.port, down.data)
-                if given not in (None, down.count):
-                    self.note(given=given)
-            elif contact:
-                device = self.plan.devices[contact.number - 1]
-                self.carrier.to_device(device, down.port, down.data)
-                if not device.is_class_c:
-                    contact.queue()
-            self.hold = 0
-        except Lost as why:
-            self.note(lost=str(why))
-            self.pause()
-
-    def send_fragment(self) -> None:
-        if not self.pause_unless_up():
-            return
-        number, down = self.sent + 1, self.given(self.server.next_fragment())
-        if not down.is_group:
-            self.keep()
-            self.copies = [(contact, number, down) for contact in self.contacts if contact.stage == "status"]
-            self.send_copy()
-        else:
-            self.send(down, sent="fragment", number=number)
-
-    def send_copy(self) -> None:
-        """A fragment by unicast to the next device."""
-        if self.pause_unless_up():
-            contact, number, down = self.copies.pop(0)
-            self.send(down, contact, sent="fragment", number=number)
-
-    def send_status(self) -> None:
-        """Asks all devices at once what they miss."""
-        if self.pause_unless_up():
-            self.send(self.server.status_all(), sent="status")
 
     def ask(self, contact: Contact) -> None:
         if contact.queued:
@@ -324,7 +132,7 @@ class Campaign:
             told |= self.moved(contact, now, texts)
             missing = missing_in(texts, self.plan.index)
             if missing is not None:
-                told |= {"missing": missing, "over": self.is_over(now)}
+                told |= {"missing": missing, "over": self.is_beyond(missing, now)}
             told |= clock_error(texts, self.plan, uplink.t)
         self.history.take(told)
         return told
@@ -335,7 +143,7 @@ class Campaign:
         if "bits" in told and contact.stage != told["stage"]:
             told["answer"] = ", ".join(texts)
         is_back = contact.is_silent and told["stage"] in SETUP and told["stage"] == contact.stage
-        if is_back and self.plan.group and not self.is_over(now):
+        if is_back and self.plan.group and not self.is_asking(now):
             told["back"] = True
         return told
 
@@ -344,10 +152,10 @@ class Campaign:
     def left(self) -> float:
         """About how many ms the fragments take still."""
         now = self.carrier.now()
-        if self.is_over(max(self.pace.at[self.plan.group is not None], now)):
+        if self.is_asking(max(self.pace.at[self.plan.group is not None], now)):
             return 0
         begin = (self.within(now) or now) - now
-        return begin + (self.plan.fragments - self.sent) * self.plan.copies * self.plan.distance(self.plan.fragment_air)
+        return begin + (self.target - self.sent) * self.plan.copies * self.plan.distance(self.plan.fragment_air)
 
     @property
     def is_updated(self) -> bool:

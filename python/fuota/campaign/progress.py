@@ -5,7 +5,7 @@ import io
 import json
 import math
 import pathlib
-from collections.abc import Iterator
+from collections.abc import Callable, Iterator
 from typing import Any, TextIO
 
 from .. import files, svg
@@ -15,6 +15,7 @@ from ..svg import BLUE, GREEN, GREY, ORANGE, drawn_path, text
 from ..theory import duration
 from .contact import Contact
 from .journal import History, lines_of
+from .opening import decision_of
 from .plan import Retry, moment_of
 from .play import Campaign
 
@@ -39,12 +40,18 @@ def counts_of(contacts: list[Contact]) -> str:
     return ", ".join(told)
 
 
+def sent_of(number: int, fragments: int, reserve: int) -> str:
+    """How many fragments went out, and how many of the reserve."""
+    return f"fragments {min(number, fragments)} of {fragments}" + (f", reserve {max(0, number - fragments)} of {reserve}" if reserve else "")
+
+
 def line_of(campaign: Campaign, is_last: bool = False) -> str:
     """How it stands, in a line."""
     left = 0 if is_last else campaign.left()
     away = campaign.carrier.away_since()
-    return (f"{counts_of(campaign.contacts)}; fragments {campaign.sent} of {campaign.plan.fragments}"
-            + (f", {duration(left)} left" if left else "")
+    notice, plan = campaign.notice(is_last), campaign.plan
+    return (f"{counts_of(campaign.contacts)}; {sent_of(campaign.sent, plan.fragments, plan.reserve)}"
+            + (f", {duration(left)} left" if left else "") + (f"; {notice}" if notice else "")
             + (f"; broker away since {moment_of(away)[11:]}" if away is not None else ""))
 
 
@@ -55,15 +62,18 @@ class Progress:
         self.stream, self.is_terminal, self.last, self.shown = stream, stream.isatty(), -math.inf, ""
 
     def show(self, campaign: Campaign, is_last: bool = False) -> None:
-        now = campaign.carrier.now()
+        self.put(campaign.carrier.now(), lambda: line_of(campaign, is_last), is_last)
+
+    def put(self, now: int, made: Callable[[], str], is_last: bool = False) -> None:
+        """Shows the line that is made at `now` ms of Unix time."""
         if self.is_terminal:
-            line = line_of(campaign, is_last)
+            line = made()
             if line != self.shown:
                 self.stream.write(f"\r{line}\x1b[K")
                 self.stream.flush()
             self.shown = line
         elif is_last or now - self.last >= A_MINUTE:
-            self.stream.write(f"{moment_of(now)}: {line_of(campaign, is_last)}\n")
+            self.stream.write(f"{moment_of(now)}: {made()}\n")
             self.stream.flush()
             self.last = now
 
@@ -94,7 +104,11 @@ class Kept:
         """A line for the campaign, and one for each device."""
         history = self.history
         count = "" if history.next_count is None else f", next frame count {history.next_count}"
-        yield f"fragments {history.number} of {history.fragments}{count}, last change {moment_of(history.last)}"
+        rounds = f" in {history.rounds} round{'s' * (history.rounds > 1)}" if history.rounds else ""
+        yield f"{sent_of(history.number, history.fragments, history.reserve)}{rounds}{count}, last change {moment_of(history.last)}"
+        for window in history.windows:
+            if window.decided:
+                yield decision_of(window, len(self.contacts))
         why = "  why" if any(contact.why for contact in self.contacts) else ""
         yield f"{'device':<16}  {'stage':<18}  missing  {'last heard':<23}{why}".rstrip()
         for contact in self.contacts:
@@ -117,7 +131,7 @@ class Kept:
         """What is known of each device, by names; moments as texts of ISO 8601."""
         return [{"eui": contact.eui, "stage": contact.stage, "word": contact.word, "since": iso_of(contact.since), "tries": contact.tries,
                  "missing": contact.missing, "last_heard": iso_of(contact.heard_at), "clock_behind_ms": contact.behind,
-                 "why": contact.why or None} for contact in self.contacts]
+                 "why": contact.why or None, "deleted": ", ".join(contact.deleted) or None} for contact in self.contacts]
 
     def json(self) -> str:
         """All that is known, as an object of JSON."""
@@ -126,7 +140,9 @@ class Kept:
         return json.dumps({
             "by": history.carrier, "begin": iso_of(history.begin), "last_change": iso_of(history.last),
             "window_opens": iso_of(opens), "window_closes": iso_of(closes), "fragments_sent": history.number,
-            "fragments": history.fragments, "next_frame_count": history.next_count, "devices": self.rows()}, indent=1) + "\n"
+            "fragments": history.fragments, "reserve": history.reserve, "rounds": history.rounds, "next_frame_count": history.next_count,
+            "windows": [{**vars(window), "opens": iso_of(window.opens), "closes": iso_of(window.closes)} for window in history.windows],
+            "devices": self.rows()}, indent=1) + "\n"
 
     def csv(self) -> str:
         """The devices, as lines of CSV under their names."""
@@ -187,10 +203,18 @@ class Picture:
         for moment, words in ticks(self.begin, self.end):
             yield drawn_path(f"M{self.place(moment):.1f} {UPPER}V{self.bottom}", GREY, 1, ' stroke-opacity="0.4"')
             yield text(f"{self.place(moment):.1f}", self.bottom + 16, words, "middle")
-        for edge, words, anchor in zip(self.history.window or (), ("window opens", "closes"), ("end", "start")):
-            if self.begin <= edge <= self.end:
-                yield drawn_path(f"M{self.place(edge):.1f} {UPPER - 4}V{self.bottom}", GREEN, 1, ' stroke-dasharray="5 3"')
-                yield text(f"{self.place(edge):.1f}", UPPER - 8, words, anchor)
+        for window in self.history.windows:
+            if window.decided == "wait":
+                yield from self.edge(window.opens, "passed over", "end", GREY)
+            else:
+                yield from self.edge(window.opens, "window opens", "end", GREEN)
+                yield from self.edge(window.closes, "closes", "start", GREEN)
+
+    def edge(self, moment: int, words: str, anchor: str, colour: str) -> Iterator[str]:
+        """An edge of a window, where it is in the picture."""
+        if self.begin <= moment <= self.end:
+            yield drawn_path(f"M{self.place(moment):.1f} {UPPER - 4}V{self.bottom}", colour, 1, ' stroke-dasharray="5 3"')
+            yield text(f"{self.place(moment):.1f}", UPPER - 8, words, anchor)
 
     def row(self, number: int, contact: Contact) -> Iterator[str]:
         y = UPPER + ROW * number + ROW // 2
@@ -205,9 +229,12 @@ class Picture:
 
     def drawn(self) -> str:
         title = f"A campaign of {len(self.contacts)} devices and {self.history.fragments} fragments, from {moment_of(self.begin)} on"
-        sent = "".join(f"M{self.place(t):.1f} {UPPER + 3}v{ROW - 6}" for t in self.history.fragments_at)
+        planned, reserve = ("".join(f"M{self.place(t):.1f} {UPPER + 3}v{ROW - 6}" for t in moments)
+                            for moments in (self.history.fragments_at, self.history.reserve_at))
         parts = [text(LEFT, 16, title), *legend(), *self.axis(),
-                 text(LEFT - 8, UPPER + ROW - 5, "fragments", "end"), drawn_path(sent or "M0 0", BLUE, 1)]
+                 text(LEFT - 8, UPPER + ROW - 5, "fragments", "end"), drawn_path(planned or "M0 0", BLUE, 1)]
+        if reserve:
+            parts.append(drawn_path(reserve, ORANGE, 1))
         for number, contact in enumerate(self.contacts, 1):
             parts += self.row(number, contact)
         beside = max(40, round(LETTER * max(len(contact.why) for contact in self.contacts)) + 16)

@@ -1,11 +1,12 @@
 """What a plan comes to: how long it takes, by when it has to begin, and what `check` says of it."""
+import itertools
 import math
 from collections.abc import Iterator
 from dataclasses import dataclass
 
 from ..library import STAGES
 from ..limits import HIGHEST_DATA_RATE, HIGHEST_FREQUENCY, LOWEST_FREQUENCY
-from ..theory import duration
+from ..theory import duration, fragments_within
 from .plan import Plan, Window, moment_of
 
 # Bytes of what the server asks at each stage, and of its answer to a device that asks for the time.
@@ -15,6 +16,8 @@ TIME_ANSWER = 6
 ALONE, GROUPED, AFTER = ("version", "fragments"), ("version", "group", "fragments", "window"), ("status", "image", "reboot", "check")
 # The ms from a payload that a device hears to its answer.
 ANSWER = 3_000
+# The ms in which devices answer a request for the status that went to the group: each up to 15 s later (BlockAckDelay 0).
+GROUP_ANSWERS = 15_000 + ANSWER
 # What is lost each way, where the plan does not tell a loss; and the share of the devices that are done in the time that is reckoned.
 LOSS, SURE = 0.1, 0.99
 
@@ -75,6 +78,11 @@ def unfit(plan: Plan, now: int) -> str | None:
     fault = plan.does_not_fit()
     if fault:
         return f"window: {fault}"
+    return unreached(plan, now) or unreached_again(plan)
+
+
+def unreached(plan: Plan, now: int) -> str | None:
+    """Why no device can be ready from now on as the window opens, with the field first; None where one can."""
     if plan.window is None:
         return None
     if plan.window.opens <= now:
@@ -83,6 +91,17 @@ def unfit(plan: Plan, now: int) -> str | None:
     if least > left:
         return (f"window.start: the window opens in {duration(left)}, and the set-up takes {duration(least)} or more: take a later "
                 "window, a higher pace.unicast_data_rate, or fewer devices")
+    return None
+
+
+def unreached_again(plan: Plan) -> str | None:
+    """Why a further start of the window comes too soon after the one before it, with the field first; None where none does."""
+    least = set_up_of(plan).least
+    for before, window in itertools.pairwise(plan.windows):
+        left = window.opens - before.opens - before.guard
+        if least > left:
+            return (f"window.again: the window of {moment_of(window.opens)} opens {duration(left)} after the one before it may be passed "
+                    f"over, and the set-up takes {duration(least)} or more")
     return None
 
 
@@ -103,15 +122,17 @@ def lines_of(plan: Plan, now: int) -> Iterator[str]:
     hardware = made.lowest if made.lowest == made.highest else f"{made.lowest} to {made.highest}"
     yield f"image: {len(made.data)} bytes, firmware {made.version} for hardware {hardware}"
     yield f"fragments: {plan.pieces} of {plan.size} bytes and {plan.coded} coded, {plan.fragments} in all"
+    yield from reserve_lines(plan)
     requests = 8 if plan.group else 6
     yield f"devices: {len(plan.devices)}, each asked {requests} times or more, by unicast"
     has = ""
     if plan.group and plan.window:
         group, window = plan.group, plan.window
-        yield f"group: {group.address.hex()}, frame counts {group.first} to {group.first + plan.fragments}"
+        yield f"group: {group.address.hex()}, frame counts {group.first} to {plan.last_count}"
         yield (f"window: class {window.kind}, from {moment_of(window.opens)} on for {duration(window.length)}, on "
                f"{window.frequency / 1e6:g} MHz at data rate {window.data_rate}")
         has = f", the window has {duration(window.length - 2 * window.guard)}"
+        yield from ready_lines(plan, window)
         yield from region_lines(plan, window)
     air = plan.fragment_air
     yield f"air: {duration(air)} a fragment, the next one {duration(plan.distance(air))} after it"
@@ -121,6 +142,31 @@ def lines_of(plan: Plan, now: int) -> Iterator[str]:
     yield f"time: {plan.does_not_fit() or f'the fragments take {duration(plan.need)}{has}'}"
     if not plan.does_not_fit():
         yield end_line(plan)
+
+
+def reserve_lines(plan: Plan) -> Iterator[str]:
+    """What is in reserve, and how much of it the window has room for."""
+    if not plan.reserve:
+        return
+    air, told = plan.fragment_air, ""
+    if plan.window:
+        left = plan.window.length - 2 * plan.window.guard - plan.need - GROUP_ANSWERS
+        told = f"; the window has room for {min(plan.reserve, fragments_within(left, plan.distance(air), air))} of them"
+    yield f"reserve: {plan.reserve} coded fragments more, as far as devices ask for them{told}"
+
+
+OTHERWISE = {"begin": "the window begins all the same", "wait": "it is passed over", "ask": "it waits for run --begin"}
+
+
+def ready_lines(plan: Plan, window: Window) -> Iterator[str]:
+    """How many devices have to be ready as the window opens, and what is done otherwise."""
+    if not window.otherwise:
+        return
+    yield f"ready: {plan.needed} of {len(plan.devices)} devices, else {OTHERWISE[window.otherwise]}"
+    likely = set_up_of(plan).likely
+    for before, later in itertools.pairwise(plan.windows):
+        is_short = later.opens - before.opens - before.guard < likely
+        yield f"again: {moment_of(later.opens)}{', before which some devices may not be ready' if is_short else ''}"
 
 
 def region_lines(plan: Plan, window: Window) -> Iterator[str]:

@@ -15,6 +15,7 @@ from .server import (Entries, Group, Lost, Members, Payload, Publish, Refusing, 
 
 # The devices of a group that are asked for at once, and in all.
 PAGE, MOST = 100, 100_000
+WORD = re.compile(r"[\w-]+")
 TOKEN = re.compile(rb"([!-~]+)\r?\n?")
 
 
@@ -125,20 +126,44 @@ class ChirpStack(Server):
     def is_asked(self) -> bool:
         return bool(self.http and self.token_file)
 
-    def differences(self, group: Group | None, euis: tuple[str, ...]) -> Iterator[str]:
+    def differences(self, group: Group | None, region: str, euis: tuple[str, ...]) -> Iterator[str]:
         if not self.is_asked:
             return
         if group:
             yield from self.group_differences(group)
         members = self.members() if group else set(euis)
+        profiles: set[str] = set()
         for eui in euis:
             there = self.answered(f"devices/{eui}", "device")
+            if there and there.get("deviceProfileId"):
+                profiles.add(str(there["deviceProfileId"]))
             if there is None:
                 yield f"device {eui}: unknown to ChirpStack"
             elif there.get("applicationId") != self.application:
                 yield f"device {eui}: of the application {self.shown(there.get('applicationId'))}, in the plan of {self.application}"
             elif eui not in members:
                 yield f"device {eui}: not in the multicast group"
+        for profile in sorted(profiles):
+            yield from self.profile_differences(profile, region)
+
+    def profile_differences(self, profile: str, region: str) -> Iterator[str]:
+        """The region of a device profile, where that is another. A key of its API may have no right to see it."""
+        if not WORD.fullmatch(profile):
+            return
+        try:
+            there = self.answered(f"device-profiles/{profile}", "deviceProfile")
+        except Refusing:
+            return
+        # (the first word of a choice is left out; AS923 has parts, as AS923_2)
+        found = None if there is None else str(there.get("region", "EU868"))
+        if found and found.split("_")[0] != region:
+            yield f"the device profile {self.shown(profile)}'s region: {self.shown(found)}, in the plan {region}"
+
+    def never_heard(self, euis: tuple[str, ...]) -> list[str]:
+        if not self.is_asked:
+            return []
+        # (a moment that is none is left out)
+        return [eui for eui in euis if not rest.ask(f"{self.api}/devices/{eui}", self.token).get("lastSeenAt")]
 
     def group_differences(self, group: Group) -> Iterator[str]:
         """The fields in which its multicast group is another. A number that is 0 and the first word of a choice are left out."""

@@ -169,9 +169,13 @@ class Server(abc.ABC):
     def prepare(self) -> None:
         """Reads what it needs beside the plan."""
 
-    def differences(self, group: Group | None, euis: tuple[str, ...]) -> Iterator[str]:
+    def differences(self, group: Group | None, region: str, euis: tuple[str, ...]) -> Iterator[str]:
         """What is otherwise there than in a plan, with both values, as far as it can be asked."""
         return iter(())
+
+    def never_heard(self, euis: tuple[str, ...]) -> list[str]:
+        """Those of the devices that it never heard, as far as it can be asked."""
+        return []
 
     @property
     def is_asked(self) -> bool:
