@@ -7,10 +7,11 @@ import signal
 import pytest
 
 import fuota
-from fuota.campaign import progress, reckoning
-from fuota.campaign.plan import moment_of, read_plan
-from fuota.campaign.rehearsal import Fleet
-from lives import BEGIN, BY_UNICAST, DEVICES, EUIS, PLAN, Played, child_life, laid_out, process_life
+import lives
+from fuota.campaign import carrier, play, progress, silence
+from fuota.campaign.folder import Folder
+from fuota.campaign.plan import read_plan
+from lives import BY_UNICAST, EUIS, PLAN, Played, child_life, laid_out, process_life
 
 OPENS, MINUTE, HOUR = 1_935_871_200_000, 60_000, 3_600_000
 AGAIN = "again = [2031-05-06T23:00:00Z, 2031-05-07T01:00:00Z]"
@@ -200,7 +201,6 @@ def test_asked_in_vain(begun, library):
 
 def test_somebody_begins_it(begun, library, monkeypatch):
     """Stopped while it waits, and run with --begin."""
-    import lives
     played = begun(ASK, OPENS + 5 * HOUR)
     words = lives.tool_words
     stop = played.take
@@ -225,10 +225,9 @@ def test_away_as_it_opened(begun, library):
 
     def until_ready(told, process):
         if played.t > OPENS - 2 * MINUTE:
-            raise Ended
+            raise lives.Ended
         take(told, process)
 
-    from lives import Ended
     played.take = until_ready
     child_life(played, library)
     played.take, played.t = take, OPENS + 16 * MINUTE
@@ -267,3 +266,42 @@ def test_lines(begun, library):
     assert said.count(": passed over, with 2 of 3 devices ready and 3 needed\n") == 3
     assert f"fuota-campaign: no answer so far of 1 device: {EUIS[0]}\n" in said
     assert said.endswith("; no further window can be reached\n")
+
+
+def test_who_is_silent(begun, library):
+    """Begun again it says which devices never answered."""
+    played = begun(WAIT, OPENS + 5 * HOUR)
+    child_life(played, library, 60)
+    _, said = process_life(played, library)
+    assert said.startswith(f"fuota-campaign: no answer so far of 1 device: {EUIS[0]}\n")
+
+
+@pytest.mark.parametrize("count, words", [
+    (1, "never heard 1 device: 00"), (2, "never heard 2 devices: 00, 01"),
+    (9, "never heard 9 devices: 00, 01, 02, 03, 04, 05, 06, 07 and 1 more")])
+def test_who_is_named(count, words):
+    assert silence.told_of([f"{number:02}" for number in range(count)], "never heard") == words
+
+
+def test_who_the_network_server_never_heard(place, library, caplog):
+    """A new campaign says what the network server tells of that."""
+    class Deaf(carrier.Carrier):
+        name = "deaf"
+
+        def wait(self, until):
+            return []
+
+        def never_heard(self, plan):
+            return [EUIS[2]]
+
+        def to_device(self, device, port, payload):
+            pass
+
+        def to_group(self, group, count, port, payload):
+            pass
+
+    folder = laid_out(place / "deaf")
+    kept = Folder(folder / "state")
+    play.Campaign(read_plan(folder / "plan.toml"), kept, Deaf(), fuota.Library(library))
+    assert f"the network server never heard 1 device: {EUIS[2]}" in caplog.text
+    kept.close()

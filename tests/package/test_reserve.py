@@ -13,7 +13,7 @@ import fuota
 from fuota import theory
 from fuota.campaign import command, progress, reckoning
 from fuota.campaign.plan import read_plan
-from lives import BY_UNICAST, EUIS, IMAGE, PLAN, VERSION, Played, child_life, devices_of, image_file, laid_out, process_life
+from lives import BY_UNICAST, EUIS, PLAN, VERSION, Played, child_life, image_file, laid_out, process_life
 
 OPENS = 1_935_871_200_000
 # 6 pieces without a coded one that is planned, and so many in reserve.
