@@ -177,22 +177,32 @@ def test_what_the_first_line_tells(tmp_path, library):
     assert progress.Kept(played.folder / "state").history.next_count == played.counts[-1] + 1 > 100
 
 
-def test_wrong_clock(tmp_path, library):
-    """The answer for the window of a device whose clock is 300 s ahead, beside others'."""
+@pytest.mark.parametrize("obeys", [True, False])
+def test_wrong_clock(tmp_path, library, obeys):
+    """A device whose first answer for the time was wrong by 300 s tells so as it answers for the window, and is asked to ask again:
+    up to three times, where it does not."""
     played = Played(laid_out(tmp_path / "campaign"), fuota.Library(library), 3, 0)
-    bring = played.fleet.bring
+    bring, wrong = played.fleet.bring, iter([300])
 
-    def bring_late(t, device, port, payload, count=None):
-        if port == 202 and device.eui == EUIS[0]:
-            correction = int.from_bytes(payload[1:5], "little", signed=True) + 300
-            payload = payload[:1] + correction.to_bytes(4, "little", signed=True) + payload[5:]
+    def bring_wrong(t, device, port, payload, count=None):
+        if device.eui == EUIS[0] and port == 202:
+            if payload[0] == 1:
+                correction = int.from_bytes(payload[1:5], "little", signed=True) + next(wrong, 0)
+                payload = payload[:1] + correction.to_bytes(4, "little", signed=True) + payload[5:]
+            elif not obeys:
+                return
         bring(t, device, port, payload, count)
 
-    played.fleet.bring = bring_late
+    played.fleet.bring = bring_wrong
     child_life(played, library)
     lines = [json.loads(line) for line in (played.folder / "state" / "journal").read_text().splitlines()]
-    told = [line for line in lines if "behind" in line and line["device"] == EUIS[0]]
-    assert len(told) == 1 and -300_000 - 1_000 < told[0]["behind"] < -300_000 + 1_000 and told[0]["start"] > 0
+    own = [line for line in lines if line.get("device") == EUIS[0]]
+    told, = (line for line in own if "behind" in line)
+    assert -300_000 - 1_000 < told["behind"] < -300_000 + 1_000 and told["start"] > 0
+    asked = [line["t"] for line in own if line.get("sent") == "resync"]
+    assert len(asked) == (1 if obeys else 3) and all(told["t"] <= t < OPENS + 1_024_000 for t in asked)
+    contact = progress.Kept(played.folder / "state").contacts[0]
+    assert not obeys or (contact.behind, contact.stage) == (None, "updated"), contact.why
 
 
 def test_a_clock_that_is_set(tmp_path):

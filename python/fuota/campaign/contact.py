@@ -13,6 +13,8 @@ SETUP = STAGES[:STAGES.index("status")]
 BELIEVED = 3
 # So many answers for the time go out in turn with the requests, to a device whose clock was wrong at its answer for the window.
 IN_TURN = 4
+# Such a device is asked at most so often to ask for the time.
+RESYNCS = 3
 
 
 class Standing(enum.Enum):
@@ -53,8 +55,10 @@ class Contact:
         # The newest answer that waits to be sent; how many it had, and when the last one was: with the distance of requests.
         self.waiting: Down | None = None
         self.given, self.answered_at = 0, 0
-        # Whether its clock was wrong after it was answered, so that the answer was lost.
+        # Whether its clock was wrong after it was answered, so that the answer was lost; how often it was asked to ask for the time
+        # since, and when the last time was.
         self.is_astray = False
+        self.resyncs, self.resynced_at = 0, 0
 
     @property
     def is_silent(self) -> bool:
@@ -69,6 +73,11 @@ class Contact:
     def is_patient(self) -> bool:
         """Whether an answer to it waits until no request is due: it had one that nothing says was lost, or it had many."""
         return self.given > 0 and not (self.is_astray and self.given < IN_TURN)
+
+    @property
+    def is_to_resync(self) -> bool:
+        """Whether it is to ask for the time once more: its clock is wrong, and nothing waits for it that could set it."""
+        return self.behind is not None and not self.waiting and not self.queued and self.resyncs < RESYNCS
 
     @property
     def is_done(self) -> bool:
@@ -140,6 +149,8 @@ class Contact:
             self.ask_later(t)
         if line.get("sent") == "answer":
             self.given, self.answered_at = self.given + 1, t
+        if line.get("sent") == "resync":
+            self.resyncs, self.resynced_at = self.resyncs + 1, t
         if "missing" in line:
             self.take_missing(line)
         if line.get("back"):

@@ -132,7 +132,7 @@ class History:
         if "air" in line:
             self.sent["count" in line] = line["t"], line["air"]
         if "sent" in line and "device" in line:
-            self.was_answer = line["sent"] == "answer"
+            self.was_answer = line["sent"] in ("answer", "resync")
         contact = self.contacts.get(line.get("device", ""))
         if contact:
             contact.take(line)

@@ -30,6 +30,7 @@ class Campaign(Rounds):
         if not fragments and not requests:
             return None
         answers, again = ([*self.to_who_asked(to_each, is_again)] for is_again in (False, True))
+        answers += self.to_wrong_clocks(to_each)
         # (of what is due at one moment the first goes out: what goes to the group, then by turns, where a device that was answered
         # before comes after all requests, unless its answer was lost)
         first, others = (fragments, requests) if self.plan.group else ([], fragments + requests)
@@ -75,6 +76,12 @@ class Campaign(Rounds):
             if contact.waiting and not contact.queued and is_again == contact.is_patient:
                 yield max(free, contact.answered_at + self.plan.retry.distance), partial(self.answer, contact)
 
+    def to_wrong_clocks(self, free: float) -> Iterator[Action]:
+        """While the window is not past: who is to ask for the time, as its clock is wrong."""
+        for contact in self.contacts:
+            if contact.is_to_resync and self.plan.window and free < self.plan.window.closes:
+                yield max(free, contact.resynced_at + self.plan.retry.distance), partial(self.resync, contact)
+
     def step(self) -> bool:
         """Waits for uplinks or the next action, and does what is due then; whether there was an action."""
         action = self.next_action()
@@ -100,6 +107,11 @@ class Campaign(Rounds):
         if self.pause_unless_up():
             down, contact.waiting = contact.waiting, None
             self.send(down, contact, sent="answer")
+
+    def resync(self, contact: Contact) -> None:
+        """Asks a device to ask for the time."""
+        if self.pause_unless_up():
+            self.send(self.calls.force_device_resync(1), contact, sent="resync")
 
     def give_up(self, contact: Contact) -> None:
         """A device that did not answer is left alone, until it is heard."""

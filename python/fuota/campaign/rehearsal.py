@@ -16,6 +16,8 @@ from .reckoning import begin_of, refused_by_library
 FIRST_WINDOW, FETCH = 1_000, 3_000
 # Every tenth uplink, and every uplink until the clock is set, asks for the time; a device of class C sends no others by itself.
 RARELY = 10
+# The port and the identifier of AppTimeAns, which sets the clock.
+TIME = (202, b"\x01")
 # Seconds that a clock is ahead at first.
 AHEAD = 77_777
 # What a meter sends beside: its port and its payload.
@@ -107,7 +109,7 @@ class Fleet:
         if self.draw.random() < self.loss:
             return
         group = (self.group.number, count) if self.group and count is not None else None
-        device.knows_time |= port == 202
+        device.knows_time |= (port, payload[:1]) == TIME
         with contextlib.suppress(library.Deaf, library.Refused, library.Full):
             device.device.deliver(port, payload, gps(t), word=self.draw.getrandbits(32), group=group)
         self.take(device)
